@@ -1,0 +1,209 @@
+//! Random schemas, rows and sections that keep the rules.
+
+use crate::random::Random;
+use crate::reading::column::{Column, Kind, BYTES, CHAPTER, FIXED, TEXT, WIDE_TEXT};
+use crate::reading::encode::{write_original, write_update, Entry};
+use crate::reading::schema::{write_schema, SchemaFile, MAX_COLUMNS, MAX_FILE_COLUMNS};
+use crate::reading::{Error, Input};
+
+const MAX_DEPTH: usize = 4;
+const MAX_ID: usize = (1 << 21) - 1;
+
+/// A schema file, and the same taken apart.
+pub fn schema_file(random: &mut Random) -> (Vec<u8>, SchemaFile) {
+    let numbers = schema_numbers(random);
+    let mut bytes = vec![0; 3 * numbers.len()];
+    let size = write_schema(&numbers, &mut bytes).expect("the numbers keep the rules");
+    bytes.truncate(size);
+    let file = SchemaFile::read(&bytes, Input::Only).expect("what is written can be read");
+    (bytes, file)
+}
+
+/// The numbers of a schema file.
+pub fn schema_numbers(random: &mut Random) -> Vec<u32> {
+    let mut maker = Maker {
+        numbers: Vec::new(),
+        ids: Vec::new(),
+        columns_left: MAX_FILE_COLUMNS,
+    };
+    maker.schema(random, 1);
+    maker.numbers
+}
+
+/// A schema file in the making.
+struct Maker {
+    numbers: Vec<u32>,
+    ids: Vec<u32>,
+    columns_left: usize,
+}
+
+impl Maker {
+    /// Adds a schema; at least one column must be left.
+    fn schema(&mut self, random: &mut Random, depth: usize) {
+        let wanted = match random.below(8) {
+            0 => random.between(1, MAX_COLUMNS),
+            1 => random.between(1, 20),
+            _ => random.between(1, 6),
+        };
+        let count = wanted.min(self.columns_left);
+        self.columns_left -= count;
+        self.numbers.push(count as u32);
+        for _ in 0..count {
+            self.column(random, depth);
+        }
+    }
+
+    fn column(&mut self, random: &mut Random, depth: usize) {
+        let may_nest = depth < MAX_DEPTH && self.columns_left > 0;
+        let code = match random.below(8) {
+            0 | 1 if may_nest => CHAPTER,
+            0..=3 => random.pick(&[BYTES, TEXT, WIDE_TEXT]),
+            _ => random.pick(&FIXED).0,
+        };
+        self.numbers.push(u32::from(code));
+        self.numbers.push(random.below(2) as u32);
+        match code {
+            CHAPTER => {
+                let id = self.new_id(random);
+                self.numbers.push(id);
+                self.schema(random, depth + 1);
+            }
+            BYTES | TEXT | WIDE_TEXT => {
+                let any = random.between(1, 32_767);
+                let small = random.between(1, 12);
+                let maximum = random.pick(&[small, small, 127, 128, 255, 256, 32_767, any]);
+                self.numbers.push(maximum as u32);
+            }
+            _ => {}
+        }
+    }
+
+    /// An id that no schema has yet.
+    fn new_id(&mut self, random: &mut Random) -> u32 {
+        loop {
+            let any = random.between(0, MAX_ID);
+            let small = random.below(300);
+            let id = random.pick(&[small, small, any]) as u32;
+            if !self.ids.contains(&id) {
+                self.ids.push(id);
+                return id;
+            }
+        }
+    }
+}
+
+/// Entries for an original row under these columns, with their values.
+pub fn original_entries(random: &mut Random, columns: &[Column]) -> (Vec<Entry>, Vec<u8>) {
+    let mut values = Vec::new();
+    let entry = |column: &Column| {
+        let is_null = column.is_chapter() || (column.nullable && random.one_in(2));
+        if is_null {
+            Entry::Null
+        } else {
+            value(random, column, &mut values)
+        }
+    };
+    let entries = columns.iter().map(entry).collect();
+    (entries, values)
+}
+
+/// Entries for an update under these columns, with their values.
+pub fn update_entries(random: &mut Random, columns: &[Column]) -> (Vec<Entry>, Vec<u8>) {
+    let mut values = Vec::new();
+    let entry = |column: &Column| match random.below(3) {
+        _ if column.is_chapter() => Entry::Unchanged,
+        0 => Entry::Unchanged,
+        1 if column.nullable => Entry::Null,
+        _ => value(random, column, &mut values),
+    };
+    let entries = columns.iter().map(entry).collect();
+    (entries, values)
+}
+
+/// A value that fits the column, added to the values.
+fn value(random: &mut Random, column: &Column, values: &mut Vec<u8>) -> Entry {
+    let length = match column.kind {
+        Kind::Fixed(width) => usize::from(width),
+        Kind::Variable => value_length(random, column),
+        Kind::Chapter => 0,
+    };
+    let start = values.len();
+    values.extend(random.bytes(length));
+    Entry::Value {
+        start,
+        end: values.len(),
+    }
+}
+
+/// A length that a variable column allows: mostly small, at times the longest.
+fn value_length(random: &mut Random, column: &Column) -> usize {
+    let prefix_limit = if column.prefix_size() == 1 {
+        255
+    } else {
+        usize::MAX
+    };
+    let per_unit = if column.code == WIDE_TEXT { 2 } else { 1 };
+    let longest = usize::from(column.maximum).min(prefix_limit / per_unit);
+    let units = match random.below(16) {
+        0 => longest,
+        _ => random.below(longest.min(12) + 1),
+    };
+    units * per_unit
+}
+
+/// The bytes of an original row with these entries.
+pub fn original_row(schema: &[u8], number: u32, entries: &[Entry], values: &[u8]) -> Vec<u8> {
+    written(|output| write_original(schema, number, entries, values, output, 0))
+}
+
+/// The bytes of update data with these entries.
+pub fn update_row(schema: &[u8], number: u32, entries: &[Entry], values: &[u8]) -> Vec<u8> {
+    written(|output| write_update(schema, number, entries, values, output, 0))
+}
+
+/// What a writer writes once it has room.
+fn written(writer: impl Fn(&mut [u8]) -> Result<usize, Error>) -> Vec<u8> {
+    // The first call says how many bytes are needed, unless that is none.
+    let size = writer(&mut []).unwrap_or_else(|error| error.offset);
+    let mut output = vec![0; size];
+    writer(&mut output).expect("the entries keep the rules");
+    output
+}
+
+/// A section under the file, and the numbers that its table must hold.
+pub fn section(random: &mut Random, schema: &[u8], file: &SchemaFile) -> (Vec<u8>, Vec<u32>) {
+    let mut bytes = Vec::new();
+    let mut table = Vec::new();
+    for _ in 0..random.below(6) {
+        let index = random.below(file.schema_count());
+        let columns = file.columns_at(index);
+        let number = index as u32;
+        let id = file.id_at(index);
+        bytes.push(if id.is_some() { 0x87 } else { 0x07 });
+        bytes.extend(id.map(u32::to_le_bytes).into_iter().flatten());
+        let start = bytes.len() as u32;
+        let (entries, values) = original_entries(random, columns);
+        bytes.extend(original_row(schema, number, &entries, &values));
+        let Some(id) = id else {
+            table.extend([1, 0, start, 0]);
+            continue;
+        };
+        match random.below(3) {
+            0 => table.extend([2, id, start, 0]),
+            1 => {
+                bytes.push(0x8A);
+                bytes.extend(id.to_le_bytes());
+                table.extend([3, id, start, bytes.len() as u32]);
+                let (entries, values) = update_entries(random, columns);
+                bytes.extend(update_row(schema, number, &entries, &values));
+            }
+            _ => {
+                bytes.push(0x8C);
+                bytes.extend(id.to_le_bytes());
+                table.extend([4, id, start, 0]);
+            }
+        }
+    }
+    bytes.push(0x0F);
+    (bytes, table)
+}

@@ -1,0 +1,240 @@
+//! Randomised comparison: valid, damaged and random inputs for every call of the archive,
+//! each held against the reading.
+
+mod header;
+mod options;
+
+use std::time::{Duration, Instant};
+
+use crate::random::Random;
+use crate::reading::{Error, ErrorCode, MAX_INPUT};
+use crate::text::shown;
+use crate::Totals;
+
+/// How long a run goes on.
+#[derive(Clone, Copy, Debug)]
+pub enum Limit {
+    Time(Duration),
+    Cases(u64),
+}
+
+/// How many differences are printed in full; all are counted.
+const PRINTED: u64 = 20;
+
+/// How many cases run between two looks at the clock.
+const BETWEEN_LOOKS: u64 = 64;
+
+/// One case of one call: makes the inputs, runs both sides, reports to the run.
+type Trial = fn(&mut Random, &mut Run);
+
+const TRIALS: [Trial; 5] = [
+    header::read_case,
+    header::write_case,
+    header::write_short_case,
+    options::read_case,
+    options::write_case,
+];
+
+/// A call under trial, with the error codes that it can answer.
+pub(crate) struct Call {
+    name: &'static str,
+    codes: &'static [ErrorCode],
+}
+
+/// What one call answered so far.
+struct Tally {
+    call: &'static Call,
+    accepted: u64,
+    /// How often each code was answered, by its number.
+    refused: [u64; ErrorCode::ALL.len() + 1],
+}
+
+/// The counts of a run.
+#[derive(Default)]
+pub(crate) struct Run {
+    totals: Totals,
+    tallies: Vec<Tally>,
+}
+
+/// Compares reading and archive on inputs that the seed determines.
+pub fn run(seed: u64, limit: Limit) -> Totals {
+    let started = Instant::now();
+    let mut random = Random::new(seed);
+    let mut run = Run::default();
+    run_oversized(&mut run);
+    let mut turn = 0;
+    while !limit.reached(turn, run.totals.cases, started) {
+        let trial = TRIALS[random.below(TRIALS.len())];
+        trial(&mut random, &mut run);
+        turn += 1;
+    }
+    println!("seed {seed}");
+    for tally in &run.tallies {
+        println!("{}", tally.text());
+    }
+    run.totals
+}
+
+/// Inputs at the size limit and over it, once each.
+fn run_oversized(run: &mut Run) {
+    let mut bytes = vec![0; MAX_INPUT + 1];
+    header::oversized(&mut bytes, run);
+    options::oversized(&mut bytes, run);
+}
+
+impl Limit {
+    fn reached(self, turn: u64, cases: u64, started: Instant) -> bool {
+        match self {
+            Limit::Cases(wanted) => cases >= wanted,
+            Limit::Time(wanted) => {
+                turn.is_multiple_of(BETWEEN_LOOKS) && started.elapsed() >= wanted
+            }
+        }
+    }
+}
+
+impl Run {
+    /// Counts one case of `call` by the reading's answer. It differs if there are complaints.
+    fn judge<T>(
+        &mut self,
+        call: &'static Call,
+        reading: &Result<T, Error>,
+        complaints: &[String],
+        inputs: impl FnOnce() -> String,
+    ) {
+        self.totals.cases += 1;
+        self.tally(call).count(reading);
+        if complaints.is_empty() {
+            return;
+        }
+        self.totals.differ += 1;
+        if self.totals.differ <= PRINTED {
+            println!("{} {}", call.name, inputs());
+            for complaint in complaints {
+                println!("  {complaint}");
+            }
+        }
+    }
+
+    /// The tally of `call`, begun if there is none.
+    fn tally(&mut self, call: &'static Call) -> &mut Tally {
+        let known = self
+            .tallies
+            .iter()
+            .position(|tally| tally.call.name == call.name);
+        let index = known.unwrap_or_else(|| {
+            self.tallies.push(Tally {
+                call,
+                accepted: 0,
+                refused: [0; ErrorCode::ALL.len() + 1],
+            });
+            self.tallies.len() - 1
+        });
+        &mut self.tallies[index]
+    }
+}
+
+impl Tally {
+    fn count<T>(&mut self, reading: &Result<T, Error>) {
+        match reading {
+            Ok(_) => self.accepted += 1,
+            Err(error) => self.refused[error.code.number() as usize] += 1,
+        }
+    }
+
+    /// The counts, with a 0 for each code that the call can answer and did not.
+    fn text(&self) -> String {
+        let mut text = format!("{}: accepted {}", self.call.name, self.accepted);
+        for code in ErrorCode::ALL {
+            let count = self.refused[code.number() as usize];
+            if count > 0 || self.call.codes.contains(&code) {
+                text += &format!(", code {}: {count}", code.number());
+            }
+        }
+        text
+    }
+}
+
+/// Leaves a piece as it is, or changes some bytes, cuts it short or lengthens it.
+pub fn damage(random: &mut Random, bytes: &mut Vec<u8>) {
+    match random.below(8) {
+        0 | 1 => {}
+        2..=4 => {
+            for _ in 0..random.between(1, 3) {
+                change_byte(random, bytes);
+            }
+        }
+        5 => bytes.truncate(random.below(bytes.len() + 1)),
+        6 => {
+            let length = random.between(1, 16);
+            bytes.extend(random.bytes(length));
+        }
+        _ => {
+            change_byte(random, bytes);
+            bytes.truncate(random.below(bytes.len() + 1));
+        }
+    }
+}
+
+/// Gives one byte another value: a near one, one bit turned, an end of the range, any.
+fn change_byte(random: &mut Random, bytes: &mut [u8]) {
+    if bytes.is_empty() {
+        return;
+    }
+    let at = random.below(bytes.len());
+    let byte = bytes[at];
+    let any = random.byte();
+    let turned = byte ^ 1 << random.below(8);
+    let near = [byte.wrapping_add(1), byte.wrapping_sub(1)];
+    bytes[at] = random.pick(&[near[0], near[1], turned, 0x00, 0xFF, any]);
+}
+
+/// A capacity for a piece of this size: often around it, at times anything.
+fn capacity(random: &mut Random, need: usize) -> usize {
+    match random.below(8) {
+        0 => 0,
+        1 => random.below(need + 1),
+        2..=4 => random.between(need.saturating_sub(2), need + 2),
+        _ => need + random.below(40),
+    }
+}
+
+/// Complaints about the outputs of two writers that both began with `before`.
+fn output_complaints<T>(
+    before: &[u8],
+    ours: &[u8],
+    theirs: &[u8],
+    written: &Result<usize, T>,
+) -> Vec<String> {
+    let mut complaints = Vec::new();
+    if ours != theirs {
+        complaints.push(format!("output of the reading: {}", shown(ours)));
+        complaints.push(format!("output of the archive: {}", shown(theirs)));
+    }
+    let kept_from = *written.as_ref().unwrap_or(&0);
+    for (side, output) in [("reading", ours), ("archive", theirs)] {
+        if output.get(kept_from..) != before.get(kept_from..) {
+            complaints.push(format!("the {side} changed bytes outside the piece"));
+        }
+    }
+    complaints
+}
+
+#[cfg(test)]
+mod tests {
+    use super::*;
+
+    #[test]
+    fn output_checks_notice_each_kind_of_change() {
+        let before = [1, 2, 3];
+        let check = |ours: [u8; 3], theirs: [u8; 3], written: Result<usize, ()>| {
+            !output_complaints(&before, &ours, &theirs, &written).is_empty()
+        };
+        assert!(!check([9, 2, 3], [9, 2, 3], Ok(1)));
+        assert!(!check([1, 2, 3], [1, 2, 3], Err(())));
+        assert!(check([9, 2, 3], [8, 2, 3], Ok(1)));
+        assert!(check([9, 9, 3], [9, 9, 3], Ok(1)));
+        assert!(check([9, 2, 3], [9, 2, 3], Err(())));
+        assert!(check([1, 2, 3], [1, 2, 4], Err(())));
+    }
+}

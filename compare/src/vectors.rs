@@ -1,0 +1,459 @@
+//! Runs vector files against the reading and, where it has the call, the archive.
+
+use std::fs;
+use std::path::{Path, PathBuf};
+use std::str::FromStr;
+
+use crate::archive;
+use crate::reading::encode::{write_original, write_update, Entry};
+use crate::reading::header::read_header;
+use crate::reading::options::read_options;
+use crate::reading::plan::make_plan;
+use crate::reading::row::{field_count, look_up};
+use crate::reading::schema::{read_schema, write_schema};
+use crate::reading::section::{read_section, ROW_NUMBERS};
+use crate::reading::update::current;
+use crate::reading::Error;
+use crate::text::{hex, parse_hex, Text};
+use crate::Totals;
+
+/// What both sides say about one line; `None` where the archive lacks the call.
+struct Answers {
+    reading: String,
+    archive: Option<String>,
+}
+
+/// Runs the inputs of one line, or says why they cannot be taken.
+type Call = fn(&[&str]) -> Result<Answers, String>;
+
+/// Runs every vector file of the folder, in the order of their names.
+pub fn run_folder(folder: &Path) -> Result<Totals, String> {
+    let files = vector_files(folder)?;
+    if files.is_empty() {
+        return Err(format!("no vector files in {}", folder.display()));
+    }
+    let mut totals = Totals::default();
+    for file in files {
+        let of_file = run_file(&file)?;
+        totals.cases += of_file.cases;
+        totals.differ += of_file.differ;
+    }
+    Ok(totals)
+}
+
+/// The `.txt` files of the folder, sorted.
+fn vector_files(folder: &Path) -> Result<Vec<PathBuf>, String> {
+    let unreadable = |error| format!("cannot read {}: {error}", folder.display());
+    let mut files = Vec::new();
+    for entry in fs::read_dir(folder).map_err(unreadable)? {
+        let path = entry.map_err(unreadable)?.path();
+        if path.extension().is_some_and(|extension| extension == "txt") {
+            files.push(path);
+        }
+    }
+    files.sort();
+    Ok(files)
+}
+
+/// Runs one file and prints a line about it.
+fn run_file(file: &Path) -> Result<Totals, String> {
+    let name = file.file_stem().unwrap_or_default().to_string_lossy();
+    // A second part of the name tells files about one call apart.
+    let first_part = name.split('.').next().unwrap_or_default();
+    let call =
+        call_of(first_part).ok_or_else(|| format!("no call is known for {}", file.display()))?;
+    let content = fs::read_to_string(file)
+        .map_err(|error| format!("cannot read {}: {error}", file.display()))?;
+    let mut totals = Totals::default();
+    let mut archive_cases = 0;
+    for (index, line) in content.lines().enumerate() {
+        totals.cases += 1;
+        match run_line(call, line) {
+            Ok(by_archive) => archive_cases += u64::from(by_archive),
+            Err(difference) => {
+                totals.differ += 1;
+                println!("{name} line {}: {line}\n{difference}", index + 1);
+            }
+        }
+    }
+    let Totals { cases, differ } = totals;
+    println!("{name}: {cases} cases, {differ} differ ({archive_cases} agree in the archive)");
+    Ok(totals)
+}
+
+/// Runs one line: whether the archive took part, or what differs.
+fn run_line(call: Call, line: &str) -> Result<bool, String> {
+    let (inputs, expected) = line
+        .split_once(" -> ")
+        .ok_or("  the line has no answer".to_string())?;
+    let inputs: Vec<&str> = inputs.split(' ').collect();
+    let answers = call(&inputs).map_err(|error| format!("  the line cannot be taken: {error}"))?;
+    let archive_agrees = answers.archive.iter().all(|answer| answer == expected);
+    if answers.reading == expected && archive_agrees {
+        return Ok(answers.archive.is_some());
+    }
+    let archive = answers.archive.as_deref().unwrap_or("(no such call)");
+    Err(format!(
+        "  reading: {}\n  archive: {archive}",
+        answers.reading
+    ))
+}
+
+/// The call that a file of this name is about.
+fn call_of(name: &str) -> Option<Call> {
+    Some(match name {
+        "read_header" => header_line,
+        "read_options" => options_line,
+        "read_sheet" => read_schema_line,
+        "write_sheet" => write_schema_line,
+        "look_up" => look_up_line,
+        "field_count" => field_count_line,
+        "current" => current_line,
+        "make_plan" => make_plan_line,
+        "fixed_place" => fixed_place_line,
+        "write_original" => write_original_line,
+        "write_update" => write_update_line,
+        "read_section" => section_line,
+        _ => return None,
+    })
+}
+
+fn header_line(inputs: &[&str]) -> Result<Answers, String> {
+    let [bytes] = take(inputs)?;
+    let bytes = parse_hex(bytes)?;
+    Ok(Answers {
+        reading: read_header(&bytes).text(),
+        archive: archive_header(&bytes),
+    })
+}
+
+fn archive_header(bytes: &[u8]) -> Option<String> {
+    Some(archive::read_header(bytes).text())
+}
+
+fn options_line(inputs: &[&str]) -> Result<Answers, String> {
+    let [bytes] = take(inputs)?;
+    let bytes = parse_hex(bytes)?;
+    Ok(Answers {
+        reading: read_options(&bytes).text(),
+        archive: archive_options(&bytes),
+    })
+}
+
+fn archive_options(bytes: &[u8]) -> Option<String> {
+    Some(archive::read_options(bytes).text())
+}
+
+fn read_schema_line(inputs: &[&str]) -> Result<Answers, String> {
+    let [bytes] = take(inputs)?;
+    let bytes = parse_hex(bytes)?;
+    Ok(Answers {
+        reading: read_schema(&bytes).text(),
+        archive: archive_read_schema(&bytes),
+    })
+}
+
+fn archive_read_schema(_bytes: &[u8]) -> Option<String> {
+    None
+}
+
+fn write_schema_line(inputs: &[&str]) -> Result<Answers, String> {
+    let [numbers] = take(inputs)?;
+    let numbers = parse_list(numbers, parse_number)?;
+    // No number takes more than three bytes.
+    let before = noise(3 * numbers.len() + 8);
+    let mut output = before.clone();
+    let written = write_schema(&numbers, &mut output);
+    Ok(Answers {
+        reading: written_text(&written, &before, &output, 0),
+        archive: archive_write_schema(&numbers, &before),
+    })
+}
+
+fn archive_write_schema(_numbers: &[u32], _before: &[u8]) -> Option<String> {
+    None
+}
+
+fn look_up_line(inputs: &[&str]) -> Result<Answers, String> {
+    let [schema, number, row, column] = take(inputs)?;
+    let (schema, row) = (parse_hex(schema)?, parse_hex(row)?);
+    let (number, column) = (parse_number(number)?, parse_number(column)?);
+    Ok(Answers {
+        reading: walk_and_plan(&schema, number, &row, column),
+        archive: archive_look_up(&schema, number, &row, column),
+    })
+}
+
+/// What the walk says about a column; the look-ups through a plan must say the same.
+fn walk_and_plan(schema: &[u8], number: u32, row: &[u8], column: u32) -> String {
+    let walk = look_up(schema, number, row, column);
+    if let Ok(plan) = make_plan(schema, number) {
+        let planned = plan.look_up(row, column);
+        let opened = plan
+            .open(row)
+            .map_or(planned.clone(), |open| open.look_up(&plan, column));
+        if planned != walk || opened != walk {
+            return [walk, planned, opened]
+                .map(|answer| answer.text())
+                .join(", ");
+        }
+    }
+    walk.text()
+}
+
+fn archive_look_up(_schema: &[u8], _number: u32, _row: &[u8], _column: u32) -> Option<String> {
+    None
+}
+
+fn field_count_line(inputs: &[&str]) -> Result<Answers, String> {
+    let [schema, number, row] = take(inputs)?;
+    let (schema, row) = (parse_hex(schema)?, parse_hex(row)?);
+    let number = parse_number(number)?;
+    Ok(Answers {
+        reading: field_count(&schema, number, &row).text(),
+        archive: archive_field_count(&schema, number, &row),
+    })
+}
+
+fn archive_field_count(_schema: &[u8], _number: u32, _row: &[u8]) -> Option<String> {
+    None
+}
+
+fn current_line(inputs: &[&str]) -> Result<Answers, String> {
+    let [schema, number, row, update, column] = take(inputs)?;
+    let (schema, row, update) = (parse_hex(schema)?, parse_hex(row)?, parse_hex(update)?);
+    let (number, column) = (parse_number(number)?, parse_number(column)?);
+    Ok(Answers {
+        reading: current(&schema, number, &row, &update, column).text(),
+        archive: archive_current(&schema, number, &row, &update, column),
+    })
+}
+
+fn archive_current(
+    _schema: &[u8],
+    _number: u32,
+    _row: &[u8],
+    _update: &[u8],
+    _column: u32,
+) -> Option<String> {
+    None
+}
+
+fn make_plan_line(inputs: &[&str]) -> Result<Answers, String> {
+    let [schema, number] = take(inputs)?;
+    let (schema, number) = (parse_hex(schema)?, parse_number(number)?);
+    Ok(Answers {
+        reading: make_plan(&schema, number).text(),
+        archive: archive_make_plan(&schema, number),
+    })
+}
+
+fn archive_make_plan(_schema: &[u8], _number: u32) -> Option<String> {
+    None
+}
+
+fn fixed_place_line(inputs: &[&str]) -> Result<Answers, String> {
+    let [schema, number, column] = take(inputs)?;
+    let (schema, number) = (parse_hex(schema)?, parse_number(number)?);
+    let column = parse_number(column)?;
+    let place = make_plan(&schema, number).and_then(|plan| plan.fixed_place(column));
+    Ok(Answers {
+        reading: place.text(),
+        archive: archive_fixed_place(&schema, number, column),
+    })
+}
+
+fn archive_fixed_place(_schema: &[u8], _number: u32, _column: u32) -> Option<String> {
+    None
+}
+
+fn write_original_line(inputs: &[&str]) -> Result<Answers, String> {
+    let row = RowToWrite::parse(inputs)?;
+    Ok(Answers {
+        reading: row.written_by(write_original),
+        archive: archive_write_original(&row),
+    })
+}
+
+fn archive_write_original(_row: &RowToWrite) -> Option<String> {
+    None
+}
+
+fn write_update_line(inputs: &[&str]) -> Result<Answers, String> {
+    let row = RowToWrite::parse(inputs)?;
+    Ok(Answers {
+        reading: row.written_by(write_update),
+        archive: archive_write_update(&row),
+    })
+}
+
+fn archive_write_update(_row: &RowToWrite) -> Option<String> {
+    None
+}
+
+fn section_line(inputs: &[&str]) -> Result<Answers, String> {
+    let [schema, section, numbers] = take(inputs)?;
+    let (schema, section) = (parse_hex(schema)?, parse_hex(section)?);
+    let before = vec![0xA5A5_A5A5; parse_number(numbers)?];
+    let mut table = before.clone();
+    let rows = read_section(&schema, &section, &mut table);
+    Ok(Answers {
+        reading: rows_text(&rows, &before, &table),
+        archive: archive_section(&schema, &section, &before),
+    })
+}
+
+fn archive_section(_schema: &[u8], _section: &[u8], _before: &[u32]) -> Option<String> {
+    None
+}
+
+/// The inputs of a row writer.
+struct RowToWrite {
+    schema: Vec<u8>,
+    number: u32,
+    entries: Vec<Entry>,
+    values: Vec<u8>,
+    before: Vec<u8>,
+    place: usize,
+}
+
+/// A row writer of the reading.
+type RowWriter = fn(&[u8], u32, &[Entry], &[u8], &mut [u8], usize) -> Result<usize, Error>;
+
+impl RowToWrite {
+    fn parse(inputs: &[&str]) -> Result<RowToWrite, String> {
+        let [schema, number, entries, values, size, place] = take(inputs)?;
+        Ok(RowToWrite {
+            schema: parse_hex(schema)?,
+            number: parse_number(number)?,
+            entries: parse_list(entries, parse_entry)?,
+            values: parse_hex(values)?,
+            before: noise(parse_number(size)?),
+            place: parse_number(place)?,
+        })
+    }
+
+    /// What a writer of the reading says and does.
+    fn written_by(&self, writer: RowWriter) -> String {
+        let mut output = self.before.clone();
+        let written = writer(
+            &self.schema,
+            self.number,
+            &self.entries,
+            &self.values,
+            &mut output,
+            self.place,
+        );
+        written_text(&written, &self.before, &output, self.place)
+    }
+}
+
+/// The bytes of the piece that a writer made at `place`, or its error. Says so if bytes
+/// outside the piece changed.
+fn written_text<E: Text>(
+    written: &Result<usize, E>,
+    before: &[u8],
+    output: &[u8],
+    place: usize,
+) -> String {
+    let (text, piece) = match written {
+        Ok(size) => match output.get(place..place.saturating_add(*size)) {
+            Some(piece) => (format!("written {}", hex(piece)), place..place + size),
+            None => return format!("{size} bytes at {place}, past the output"),
+        },
+        Err(error) => (error.text(), 0..0),
+    };
+    let outside = |bytes: &[u8]| [&bytes[..piece.start], &bytes[piece.end..]].concat();
+    if output.len() != before.len() || outside(output) != outside(before) {
+        return format!("{text} with other bytes changed");
+    }
+    text
+}
+
+/// The rows that a table holds, or the reader's error. Says so if numbers past the rows
+/// changed.
+fn rows_text<E: Text>(rows: &Result<usize, E>, before: &[u32], table: &[u32]) -> String {
+    let (mut text, filled) = match rows {
+        Ok(count) => (format!("rows {count}"), count.saturating_mul(ROW_NUMBERS)),
+        Err(error) => (error.text(), 0),
+    };
+    let Some(numbers) = table.get(..filled) else {
+        return format!("{text}, past the table");
+    };
+    for number in numbers {
+        text += &format!(" {number}");
+    }
+    if table[filled..] != before[filled..] {
+        text += " with other numbers changed";
+    }
+    text
+}
+
+/// Bytes that an output begins with, so that changes show.
+fn noise(size: usize) -> Vec<u8> {
+    (0..size).map(|at| (at * 37 + 11) as u8).collect()
+}
+
+/// A decimal number.
+fn parse_number<N: FromStr>(text: &str) -> Result<N, String> {
+    text.parse().map_err(|_| format!("not a number: {text:?}"))
+}
+
+/// A list with commas between its parts, `-` if it has none.
+fn parse_list<T>(text: &str, part: fn(&str) -> Result<T, String>) -> Result<Vec<T>, String> {
+    if text == "-" {
+        return Ok(Vec::new());
+    }
+    text.split(',').map(part).collect()
+}
+
+/// An entry for a row writer.
+fn parse_entry(text: &str) -> Result<Entry, String> {
+    match text {
+        "n" => Ok(Entry::Null),
+        "k" => Ok(Entry::Unchanged),
+        _ => {
+            let (start, end) = text
+                .split_once(':')
+                .ok_or_else(|| format!("not an entry: {text:?}"))?;
+            Ok(Entry::Value {
+                start: parse_number(start)?,
+                end: parse_number(end)?,
+            })
+        }
+    }
+}
+
+/// The inputs of a line, if there are as many as the call takes.
+fn take<'a, const N: usize>(inputs: &[&'a str]) -> Result<[&'a str; N], String> {
+    <[&str; N]>::try_from(inputs).map_err(|_| format!("{N} inputs expected, {}", inputs.len()))
+}
+
+#[cfg(test)]
+mod tests {
+    use super::*;
+
+    fn echo(inputs: &[&str]) -> Result<Answers, String> {
+        let [reading, archive] = take(inputs)?;
+        Ok(Answers {
+            reading: reading.to_string(),
+            archive: (archive != "none").then(|| archive.to_string()),
+        })
+    }
+
+    #[test]
+    fn a_line_differs_if_either_side_does() {
+        assert_eq!(run_line(echo, "yes yes -> yes"), Ok(true));
+        assert_eq!(run_line(echo, "yes none -> yes"), Ok(false));
+        for wrong in ["no yes -> yes", "yes no -> yes", "no none -> yes"] {
+            assert!(run_line(echo, wrong).is_err(), "{wrong}");
+        }
+    }
+
+    #[test]
+    fn a_line_that_cannot_be_taken_differs() {
+        for wrong in ["", "yes yes", "yes -> yes", "yes yes yes -> yes"] {
+            assert!(run_line(echo, wrong).is_err(), "{wrong}");
+        }
+    }
+}

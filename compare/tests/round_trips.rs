@@ -1,0 +1,172 @@
+//! The reading against itself: what is written reads back, the walk and the plan agree on
+//! sound and damaged rows, and sections give the table that they were made for.
+
+use compare::generate;
+use compare::random::Random;
+use compare::reading::column::{Column, Kind};
+use compare::reading::encode::Entry;
+use compare::reading::plan::make_plan;
+use compare::reading::row::{field_count, look_up, Answer};
+use compare::reading::schema::{read_schema, SchemaFile};
+use compare::reading::section::read_section;
+use compare::reading::update::{current, Current};
+use compare::reading::{Error, ErrorCode, Input};
+use compare::trials::damage;
+
+const ROUNDS: usize = 3_000;
+
+/// One of the file's schemas: its number and its columns.
+fn any_schema<'a>(random: &mut Random, file: &'a SchemaFile) -> (u32, &'a [Column]) {
+    let index = random.below(file.schema_count());
+    (index as u32, file.columns_at(index))
+}
+
+/// True if the answer is what the entry says; a field must hold the entry's value.
+fn says(answer: &Answer, entry: &Entry, column: &Column, values: &[u8], row: &[u8]) -> bool {
+    match (answer, entry) {
+        (Answer::Chapter, Entry::Null) => column.is_chapter(),
+        (Answer::Null, Entry::Null) => !column.is_chapter(),
+        (Answer::Field { place, .. }, Entry::Value { start, end }) => {
+            row[place.clone()] == values[*start..*end]
+        }
+        _ => false,
+    }
+}
+
+/// The values of variable columns among the first entries: the prefixes that a walk counts.
+fn prefixes(columns: &[Column], entries: &[Entry]) -> usize {
+    let counts = |(column, entry): &(&Column, &Entry)| {
+        column.kind == Kind::Variable && matches!(entry, Entry::Value { .. })
+    };
+    columns.iter().zip(entries).filter(counts).count()
+}
+
+#[test]
+fn a_written_row_reads_back() {
+    let mut random = Random::new(1);
+    for _ in 0..ROUNDS {
+        let (schema, file) = generate::schema_file(&mut random);
+        let (number, columns) = any_schema(&mut random, &file);
+        let (entries, values) = generate::original_entries(&mut random, columns);
+        let row = generate::original_row(&schema, number, &entries, &values);
+        let plan = make_plan(&schema, number).unwrap();
+        for (index, entry) in entries.iter().enumerate() {
+            let answer = look_up(&schema, number, &row, index as u32).unwrap();
+            assert!(says(&answer, entry, &columns[index], &values, &row));
+            if let Answer::Field {
+                place,
+                prefixes: count,
+            } = answer
+            {
+                assert_eq!(count, prefixes(&columns[..=index], &entries[..=index]));
+                let fixed = plan.fixed_place(index as u32).unwrap();
+                assert!(fixed.is_none_or(|fixed| fixed == place.start));
+            }
+        }
+        let fields = entries
+            .iter()
+            .filter(|entry| **entry != Entry::Null)
+            .count();
+        assert_eq!(field_count(&schema, number, &row), Ok(fields));
+    }
+}
+
+#[test]
+fn the_plan_says_what_the_walk_says() {
+    let mut random = Random::new(2);
+    for _ in 0..ROUNDS {
+        let (schema, file) = generate::schema_file(&mut random);
+        let (number, columns) = any_schema(&mut random, &file);
+        let (entries, values) = generate::original_entries(&mut random, columns);
+        let mut row = generate::original_row(&schema, number, &entries, &values);
+        damage(&mut random, &mut row);
+        let plan = make_plan(&schema, number).unwrap();
+        let opened = plan.open(&row);
+        for column in 0..columns.len() as u32 + 2 {
+            let walk = look_up(&schema, number, &row, column);
+            assert_eq!(plan.look_up(&row, column), walk);
+            if let Ok(opened) = opened {
+                assert_eq!(opened.look_up(&plan, column), walk);
+            }
+        }
+    }
+}
+
+#[test]
+fn an_update_changes_what_it_carries() {
+    let mut random = Random::new(3);
+    for _ in 0..ROUNDS {
+        let (schema, file) = generate::schema_file(&mut random);
+        let (number, columns) = any_schema(&mut random, &file);
+        let (entries, values) = generate::original_entries(&mut random, columns);
+        let row = generate::original_row(&schema, number, &entries, &values);
+        let (changes, new_values) = generate::update_entries(&mut random, columns);
+        let mut update = generate::update_row(&schema, number, &changes, &new_values);
+        update.push(random.byte());
+        for (index, change) in changes.iter().enumerate() {
+            let column = index as u32;
+            let answer = current(&schema, number, &row, &update, column).unwrap();
+            match (change, answer) {
+                (Entry::Unchanged, Current::Original(answer)) => {
+                    assert_eq!(look_up(&schema, number, &row, column), Ok(answer));
+                }
+                (Entry::Null, Current::Forced) => {}
+                (
+                    Entry::Value { start, end },
+                    Current::Updated {
+                        place,
+                        prefixes: count,
+                    },
+                ) => {
+                    assert_eq!(update[place], new_values[*start..*end]);
+                    assert_eq!(count, prefixes(&columns[..=index], &changes[..=index]));
+                }
+                (change, answer) => panic!("{change:?} gives {answer:?}"),
+            }
+        }
+    }
+}
+
+#[test]
+fn a_section_gives_its_table() {
+    let mut random = Random::new(4);
+    for _ in 0..ROUNDS {
+        let (schema, file) = generate::schema_file(&mut random);
+        let (section, wanted) = generate::section(&mut random, &schema, &file);
+        let rows = wanted.len() / 4;
+        let mut table = vec![0xAAAA_AAAA; wanted.len() + 3];
+        assert_eq!(read_section(&schema, &section, &mut table), Ok(rows));
+        assert_eq!(table[..wanted.len()], wanted);
+        assert_eq!(table[wanted.len()..], [0xAAAA_AAAA; 3]);
+        if let Some(room) = wanted.len().checked_sub(1) {
+            let mut table = vec![0xAAAA_AAAA; room];
+            let error = Error::new(ErrorCode::Capacity, rows, Input::Table);
+            assert_eq!(read_section(&schema, &section, &mut table), Err(error));
+            assert_eq!(table, vec![0xAAAA_AAAA; room]);
+        }
+    }
+}
+
+#[test]
+fn damage_never_breaks_a_reader() {
+    let mut random = Random::new(5);
+    for _ in 0..ROUNDS {
+        let (schema, file) = generate::schema_file(&mut random);
+        let (mut section, wanted) = generate::section(&mut random, &schema, &file);
+        damage(&mut random, &mut section);
+        let mut table = vec![7; wanted.len()];
+        if read_section(&schema, &section, &mut table).is_err() {
+            assert_eq!(table, vec![7; wanted.len()]);
+        }
+        let (number, columns) = any_schema(&mut random, &file);
+        let (changes, values) = generate::update_entries(&mut random, columns);
+        let mut update = generate::update_row(&schema, number, &changes, &values);
+        damage(&mut random, &mut update);
+        for column in 0..columns.len() as u32 {
+            let _ = current(&schema, number, &[], &update, column);
+        }
+        let mut damaged = schema.clone();
+        damage(&mut random, &mut damaged);
+        let _ = read_schema(&damaged);
+    }
+}

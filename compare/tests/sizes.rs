@@ -1,0 +1,62 @@
+//! The size limit comes before everything else, and names the first input that is over it.
+
+use compare::reading::encode::{write_original, write_update};
+use compare::reading::plan::make_plan;
+use compare::reading::row::{field_count, look_up, Answer};
+use compare::reading::schema::read_schema;
+use compare::reading::section::read_section;
+use compare::reading::update::current;
+use compare::reading::{Error, ErrorCode, Input, MAX_INPUT};
+
+/// One column of one byte that is not nullable.
+const SCHEMA: [u8; 3] = [0x01, 0x11, 0x00];
+/// A schema that is refused for its count.
+const BAD: [u8; 1] = [0x00];
+
+fn over<T>(input: Input) -> Result<T, Error> {
+    Err(Error::new(ErrorCode::Oversize, 0, input))
+}
+
+#[test]
+fn an_input_over_the_limit_is_named() {
+    let large = vec![0; MAX_INPUT + 1];
+    assert_eq!(read_schema(&large), over(Input::Only));
+    assert_eq!(make_plan(&large, 9), over(Input::Schema));
+    assert_eq!(look_up(&large, 9, &large, 9), over(Input::Schema));
+    assert_eq!(look_up(&BAD, 9, &large, 9), over(Input::Row));
+    assert_eq!(field_count(&BAD, 9, &large), over(Input::Row));
+    assert_eq!(current(&large, 9, &large, &large, 9), over(Input::Schema));
+    assert_eq!(current(&BAD, 9, &large, &large, 9), over(Input::Update));
+    assert_eq!(current(&BAD, 9, &large, &[], 9), over(Input::Row));
+    assert_eq!(read_section(&large, &large, &mut []), over(Input::Schema));
+    assert_eq!(read_section(&BAD, &large, &mut []), over(Input::Section));
+    for writer in [write_original, write_update] {
+        let schema = writer(&large, 9, &[], &large, &mut [], 9);
+        assert_eq!(schema, over(Input::Schema));
+        let values = writer(&BAD, 9, &[], &large, &mut [], 9);
+        assert_eq!(values, over(Input::Values));
+    }
+    let plan = make_plan(&SCHEMA, 0).unwrap();
+    assert_eq!(plan.look_up(&large, 9), over(Input::Row));
+    assert_eq!(plan.open(&large).map(|_| ()), over(Input::Row));
+}
+
+#[test]
+fn an_input_at_the_limit_is_read() {
+    let mut large = vec![0; MAX_INPUT];
+    let field = Answer::Field {
+        place: 0..1,
+        prefixes: 0,
+    };
+    assert_eq!(look_up(&SCHEMA, 0, &large, 0), Ok(field));
+    // A schema file of one column, then bytes that do not belong to it.
+    large[..3].copy_from_slice(&SCHEMA);
+    let trailing = Error::new(ErrorCode::Trailing, 3, Input::Only);
+    assert_eq!(read_schema(&large), Err(trailing));
+    // Rows of one byte each, and no end token.
+    for pair in large.chunks_mut(2) {
+        pair.copy_from_slice(&[0x07, 0x2A]);
+    }
+    let truncated = Error::new(ErrorCode::Truncated, MAX_INPUT, Input::Section);
+    assert_eq!(read_section(&SCHEMA, &large, &mut []), Err(truncated));
+}

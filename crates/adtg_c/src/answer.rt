@@ -1,0 +1,48 @@
+// An answer as sixteen numbers and a status.
+ghost use mathlib.Core.Path.{_≡_};
+ghost use Prim.Native.Nat.{ℕ};
+ghost use Rattle.wire.specs.Output.{toldWritten};
+ghost use Rattle.wire.specs.Read.{refused};
+ghost use Rattle.adtg_c.specs.Answers.{Answered, sizeValues, noValues};
+use wire::error::Error;
+use wire::output::Written;
+
+// The answer of a call that is refused.
+pub fn refuse(e: Error, out: &mut [u64; 16]) -> u32
+    ensures { λ r. ⌜ Answered noValues (refused e) r (now (out .exit)) ⌝ }
+{
+    let kind = e.kind;
+    let input = e.input;
+    *out = [
+        e.offset as u64,
+        input.number(),
+        0,
+        0,
+        0,
+        0,
+        0,
+        0,
+        0,
+        0,
+        0,
+        0,
+        0,
+        0,
+        0,
+        0,
+    ];
+    kind.code()
+}
+
+// The answer of a writer.
+pub fn answer_written(w: Written, out: &mut [u64; 16]) -> u32
+    ensures { λ r. ⌜ Answered sizeValues (toldWritten w) r (now (out .exit)) ⌝ }
+{
+    match w {
+        Written::Refused(e) => refuse(e, out),
+        Written::Bytes(n) => {
+            *out = [n as u64, 0, 0, 0, 0, 0, 0, 0, 0, 0, 0, 0, 0, 0, 0, 0];
+            0
+        }
+    }
+}

@@ -1,0 +1,265 @@
+-- Laws of columns and of one field at a position of a row. The functions' proofs and the layers above cite these.
+-- Assumes nothing.
+use Prim.Native.Nat.{ℕ, zero, suc, _+_, _*_, _-_, _%_, _≤_, _<_}
+use mathlib.Core.List.{[], _∷_}
+use mathlib.Core.Bool.{Bool, true, false, true≢false}
+use mathlib.Core.Path.{_≡_, refl, sym, ap, _∙_}
+use native.Mathlib.Omega.{arith, by-contra, not-le}
+use lib.ListN.{length, take}
+use lib.Seq.{take-take}
+use borrow.Author.Tests.{lt-ltb, le-ltb, le-leb, lt-leb, ne-eqb}
+use Rattle.wire.specs.declared.error.ErrorKind.{ErrorKind}
+use Rattle.wire.specs.declared.error.ErrorKind.the-variants as error
+use Rattle.wire.specs.declared.error.Input.{Input}
+use Rattle.wire.specs.declared.error.Input.the-variants.{Single}
+use Rattle.wire.specs.Errors.{codeOf}
+use Rattle.wire.specs.Read.{Bytes, Read, ok, bad, pick, cut}
+use Rattle.wire.specs.Integers.{valueOf, intAt, readInt}
+use Rattle.wire.proofs.Laws.{whole-fits, whole-short, int-fits, int-short}
+use Rattle.column.specs.declared.column.Column.{Column}
+use Rattle.column.specs.declared.field.Field.{Field}
+use Rattle.column.specs.declared.types.Kind.{Kind}
+use Rattle.column.specs.declared.types.Kind.the-variants.{Variable, Wide}
+use Rattle.column.specs.Columns.{kind, width, isVariable, prefixSize, prefixBytes, lengthErrorOf, lengthError}
+use Rattle.column.specs.Fields.{field, allowed, bytesAt, variableAt, fieldAt}
+
+-- Answers and errors.
+
+bad-ok : {A : Type 0} {k o : ℕ} {i : Input} {a : A} → bad k o i ≡ ok a → ⊥
+bad-ok h = let z : _≡_ {A = ℕ} 0 1 = cc in omega arith
+
+-- no error has the number 0
+pub code-positive : (k : ErrorKind) → 0 < codeOf k
+code-positive error.Short = omega arith
+code-positive error.Constant = omega arith
+code-positive error.Value = omega arith
+code-positive error.OptionsSize = omega arith
+code-positive error.NumberForm = omega arith
+code-positive error.Range = omega arith
+code-positive error.Limit = omega arith
+code-positive error.RepeatedId = omega arith
+code-positive error.UnknownToken = omega arith
+code-positive error.UnknownId = omega arith
+code-positive error.Unpaired = omega arith
+code-positive error.ChapterBit = omega arith
+code-positive error.ForceNull = omega arith
+code-positive error.Length = omega arith
+code-positive error.Trailing = omega arith
+code-positive error.Capacity = omega arith
+code-positive error.PlanMismatch = omega arith
+code-positive error.Missing = omega arith
+code-positive error.TooLarge = omega arith
+code-positive error.Entry = omega arith
+
+-- an integer that was read is there
+pub int-inside : (s : Bytes) (at size n : ℕ) → readInt s at size ≡ ok n → at + size ≤ length s
+int-inside s at size n h = by-contra _ _ (λ l. bad-ok (sym (int-short s at size l) ∙ h))
+
+-- bytes within the first e, and their integer, depend on these alone
+cut-front : (s : Bytes) (e at size : ℕ) → at + size ≤ e → cut (take e s) at size ≡ cut s at size
+cut-front s e zero size h = take-take size e s (omega arith)
+cut-front s zero (suc at) size h = absurd (omega arith)
+cut-front [] (suc e) (suc at) size h = refl
+cut-front (b ∷ s) (suc e) (suc at) size h = cut-front s e at size (omega arith)
+
+int-front : (s t : Bytes) (e at size : ℕ) → at + size ≤ e → take e s ≡ take e t → intAt s at size ≡ intAt t at size
+unfolding intAt
+int-front s t e at size h q =
+    ap valueOf (sym (cut-front s e at size h) ∙ ap (λ (x : Bytes). cut x at size) q ∙ cut-front t e at size h)
+
+-- What a column decides.
+
+-- a definition over kinds, at the kind that was found
+pub kind-told : {A : Type 0} (f : Kind → A) {k j v : Kind} → k ≡ j → k ≡ v → f v ≡ f j
+kind-told f e g = ap f (sym g ∙ e)
+
+module _ (c : Column) where
+  pub prefix-one : c .maximum < 256 → prefixSize c ≡ 1
+  unfolding prefixSize
+  prefix-one h = rw (lt-ltb _ _ h)
+
+  pub prefix-four : 256 ≤ c .maximum → prefixSize c ≡ 4
+  unfolding prefixSize
+  prefix-four h = rw (le-ltb _ _ h)
+
+  -- a prefix has one of two sizes
+  pub prefix-else : (prefixSize c ≡ 1 → ⊥) → prefixSize c ≡ 4
+  prefix-else h = prefix-four (by-contra _ _ (λ l. h (prefix-one (omega arith))))
+
+  pub prefix-variable : isVariable c ≡ true → prefixBytes c ≡ prefixSize c
+  unfolding prefixBytes
+  prefix-variable v = rw v
+
+  pub prefix-plain : isVariable c ≡ false → prefixBytes c ≡ 0
+  unfolding prefixBytes
+  prefix-plain v = rw v
+
+  -- the error of a length, at the kind that was found
+  module _ (n : ℕ) {k : Kind} (e : k ≡ kind c) where
+    pub length-told : {v : Kind} {r : ℕ} → k ≡ v → lengthErrorOf v (c .maximum) n ≡ r → r ≡ lengthError c n
+    unfolding lengthError
+    length-told g h = sym h ∙ kind-told (λ (j : Kind). lengthErrorOf j (c .maximum) n) e g
+
+    pub length-over : k ≡ Variable → c .maximum < n → 14 ≡ lengthError c n
+    length-over g h = length-told g (rw (lt-leb n (c .maximum) h))
+
+    pub length-within : k ≡ Variable → n ≤ c .maximum → 0 ≡ lengthError c n
+    length-within g h = length-told g (rw (le-leb n (c .maximum) h))
+
+    pub wide-over : k ≡ Wide → 2 * c .maximum < n → 14 ≡ lengthError c n
+    wide-over g h = length-told g (rw (lt-leb n (2 * c .maximum) h))
+
+    module _ (g : k ≡ Wide) (h : n ≤ 2 * c .maximum) where
+      pub wide-odd : (n % 2 ≡ 0 → ⊥) → 14 ≡ lengthError c n
+      wide-odd o = length-told g (rw (le-leb n (2 * c .maximum) h, ne-eqb _ _ o))
+
+      pub wide-within : n % 2 ≡ 0 → 0 ≡ lengthError c n
+      wide-within o = length-told g (rw (le-leb n (2 * c .maximum) h, o))
+
+-- A field of so many bytes.
+
+module _ (row : Bytes) (at width prefixes : ℕ) where
+  pub bytes-short : length row < at + width → bytesAt row at width prefixes ≡ bad 1 (length row) Single
+  unfolding bytesAt
+  bytes-short h = simp (whole-short row at width h)
+
+  pub bytes-fit : at + width ≤ length row → bytesAt row at width prefixes ≡ ok (field at (at + width) prefixes)
+  unfolding bytesAt
+  bytes-fit h = simp (whole-fits row at width h)
+
+  bytes-inside : {f : Field} → bytesAt row at width prefixes ≡ ok f → at + width ≤ length row
+  bytes-inside h = by-contra _ _ (λ l. bad-ok (sym (bytes-short l) ∙ h))
+
+  bytes-told : {f : Field} → bytesAt row at width prefixes ≡ ok f → f ≡ field at (at + width) prefixes
+  bytes-told {f} h = let e : ok f ≡ ok (field at (at + width) prefixes) = sym h ∙ bytes-fit (bytes-inside h) in cc
+
+-- A field of variable length: the answer of its prefix is its own; then its length is refused, or its bytes follow.
+
+module _ (c : Column) (row : Bytes) (at : ℕ) where
+  pub variable-short : length row < at + prefixSize c → variableAt c row at ≡ bad 1 (length row) Single
+  unfolding variableAt
+  variable-short h = simp (whole-short row at (prefixSize c) h)
+
+  pub variable-refused : (k o : ℕ) (i : Input) → readInt row at (prefixSize c) ≡ bad k o i → variableAt c row at ≡ bad k o i
+  variable-refused k o i h =
+      let l = not-le (at + prefixSize c) (length row) (λ l. bad-ok (sym h ∙ int-fits row at (prefixSize c) l)) in
+      let e : _≡_ {A = Read ℕ} (bad 1 (length row) Single) (bad k o i) = sym (int-short row at (prefixSize c) l) ∙ h in
+      variable-short l ∙ cc
+
+  module _ (n : ℕ) (h : readInt row at (prefixSize c) ≡ ok n) where
+    pub variable-long : (lengthError c n ≡ 0 → ⊥) → variableAt c row at ≡ bad (lengthError c n) at Single
+    unfolding variableAt allowed
+    variable-long e = simp (whole-fits row at (prefixSize c) (int-inside _ _ _ _ h), h, ne-eqb _ _ e)
+
+    pub variable-bytes : lengthError c n ≡ 0 → variableAt c row at ≡ bytesAt row (at + prefixSize c) n 1
+    unfolding variableAt allowed
+    variable-bytes e = simp (whole-fits row at (prefixSize c) (int-inside _ _ _ _ h), h, e)
+
+-- The field of a present column.
+
+module _ (c : Column) (row : Bytes) (p : ℕ) where
+  pub field-variable : isVariable c ≡ true → fieldAt c row p ≡ variableAt c row p
+  unfolding fieldAt
+  field-variable v = rw v
+
+  pub field-fixed : isVariable c ≡ false → fieldAt c row p ≡ bytesAt row p (width c) 0
+  unfolding fieldAt
+  field-fixed v = rw v
+
+  -- past the row's end every field is short
+  pub field-past : length row < p → fieldAt c row p ≡ bad 1 (length row) Single
+  field-past h = go (isVariable c) refl
+    where
+      go : (v : Bool) → isVariable c ≡ v → fieldAt c row p ≡ bad 1 (length row) Single
+      go true v = field-variable v ∙ variable-short c row p (omega arith)
+      go false v = field-fixed v ∙ bytes-short row p (width c) 0 (omega arith)
+
+-- What a field that is found tells; and where all of this holds, it is found.
+
+pub record Told (c : Column) (row : Bytes) (p : ℕ) (f : Field) : Type 0 where
+  pub starts : f .start ≡ p + prefixBytes c
+  pub forward : f .start ≤ f .end
+  pub ends : f .end ≤ length row
+  pub counts : f .prefixes ≡ pick (isVariable c) 1 0
+  pub length-allowed : isVariable c ≡ true → lengthError c (f .end - f .start) ≡ 0
+  pub length-said : isVariable c ≡ true → intAt row p (prefixSize c) ≡ f .end - f .start
+  pub fixed : isVariable c ≡ false → f .end ≡ f .start + width c
+
+found : (f : Field) {s e k : ℕ} → s ≡ f .start → e ≡ f .end → k ≡ f .prefixes → ok (field s e k) ≡ ok f
+found f p q r = rw (p, q, r)
+
+module _ (c : Column) (row : Bytes) (p : ℕ) where
+  told-variable : {f : Field} → isVariable c ≡ true → variableAt c row p ≡ ok f → Told c row p f
+  told-variable {f} v h =
+      let n : ℕ = intAt row p (prefixSize c) in
+      let l = by-contra (p + prefixSize c) (length row) (λ l. bad-ok (sym (variable-short c row p l) ∙ h)) in
+      let i = int-fits row p (prefixSize c) l in
+      let z : lengthError c n ≤ 0 = by-contra _ _ (λ l. bad-ok (sym (variable-long c row p n i (omega arith)) ∙ h)) in
+      let b = sym (variable-bytes c row p n i (omega arith)) ∙ h in
+      let e = bytes-told row (p + prefixSize c) n 1 b in
+      let s : f .start ≡ p + prefixSize c = ap (λ (x : Field). x .start) e in
+      let t : f .end ≡ p + prefixSize c + n = ap (λ (x : Field). x .end) e in
+      let d : n ≡ f .end - f .start = omega arith in
+      record {
+        starts = omega (arith, prefix-variable c v);
+        forward = omega arith;
+        ends = omega (arith, bytes-inside row (p + prefixSize c) n 1 b);
+        counts = rw v (ap (λ (x : Field). x .prefixes) e);
+        length-allowed = λ _. ap (lengthError c) (sym d) ∙ omega arith;
+        length-said = λ _. d;
+        fixed = λ q. absurd (true≢false (sym v ∙ q));
+      }
+
+  told-fixed : {f : Field} → isVariable c ≡ false → bytesAt row p (width c) 0 ≡ ok f → Told c row p f
+  told-fixed {f} v h =
+      let e = bytes-told row p (width c) 0 h in
+      let s : f .start ≡ p = ap (λ (x : Field). x .start) e in
+      let t : f .end ≡ p + width c = ap (λ (x : Field). x .end) e in
+      record {
+        starts = omega (arith, prefix-plain c v);
+        forward = omega arith;
+        ends = omega (arith, bytes-inside row p (width c) 0 h);
+        counts = rw v (ap (λ (x : Field). x .prefixes) e);
+        length-allowed = λ q. absurd (true≢false (sym q ∙ v));
+        length-said = λ q. absurd (true≢false (sym q ∙ v));
+        fixed = λ _. omega arith;
+      }
+
+  pub field-told : {f : Field} → fieldAt c row p ≡ ok f → Told c row p f
+  field-told {f} h = go (isVariable c) refl
+    where
+      go : (v : Bool) → isVariable c ≡ v → Told c row p f
+      go true v = told-variable v (sym (field-variable c row p v) ∙ h)
+      go false v = told-fixed v (sym (field-fixed c row p v) ∙ h)
+
+  pub field-made : {f : Field} → Told c row p f → fieldAt c row p ≡ ok f
+  field-made {f} t = go (isVariable c) refl
+    where
+      go : (v : Bool) → isVariable c ≡ v → fieldAt c row p ≡ ok f
+      go true v =
+          let q = prefix-variable c v in
+          let n : ℕ = f .end - f .start in
+          let i : readInt row p (prefixSize c) ≡ ok n = int-fits row p (prefixSize c) (omega arith) ∙ ap ok (t .length-said v) in
+          field-variable c row p v ∙ variable-bytes c row p n i (t .length-allowed v) ∙ bytes-fit row (p + prefixSize c) n 1 (omega arith)
+          ∙ found f (omega arith) (omega arith) (sym (t .counts ∙ rw v))
+      go false v =
+          let q = prefix-plain c v in
+          let w = t .fixed v in
+          field-fixed c row p v ∙ bytes-fit row p (width c) 0 (omega arith) ∙ found f (omega arith) (omega arith) (sym (t .counts ∙ rw v))
+
+-- bytes after a field that is found do not matter
+pub field-later :
+    (c : Column) (row other : Bytes) (p : ℕ) {f : Field} → fieldAt c row p ≡ ok f → take (f .end) row ≡ take (f .end) other → f .end ≤ length other →
+    fieldAt c other p ≡ ok f
+field-later c row other p {f} h q l =
+    let t = field-told c row p h in
+    field-made c other p
+    (record {
+      starts = t .starts;
+      forward = t .forward;
+      ends = l;
+      counts = t .counts;
+      length-allowed = t .length-allowed;
+      length-said = λ v. sym (int-front row other (f .end) p (prefixSize c) (omega (arith, prefix-variable c v)) q) ∙ t .length-said v;
+      fixed = t .fixed;
+    })

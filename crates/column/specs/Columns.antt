@@ -1,0 +1,54 @@
+-- One column: what its type, flags and maximum decide (document 01, "Rows").
+-- Assumes nothing.
+use Prim.Native.Nat.{ℕ, _*_, _%_}
+use mathlib.Core.Bool.{Bool}
+use lib.Dec.{ltb, leb, eqb}
+use Rattle.wire.specs.Errors.{codeOf}
+use Rattle.wire.specs.Read.{pick}
+use Rattle.column.specs.declared.column.Column.{Column}
+use Rattle.column.specs.declared.column.LengthCheck.{LengthCheck}
+use Rattle.column.specs.declared.column.LengthCheck.the-variants.{Allowed, Refused}
+use Rattle.column.specs.declared.types.Kind.{Kind}
+use Rattle.column.specs.declared.types.Kind.the-variants.{Fixed, Variable, Wide, Chapter, Unknown}
+use Rattle.column.specs.Types.{kindOf, widthOf, variableKind, chapterKind}
+
+abbrev pub kind : Column → Kind
+kind c = kindOf (c .code)
+
+abbrev pub width : Column → ℕ
+width c = widthOf (kind c)
+
+abbrev pub isVariable : Column → Bool
+isVariable c = variableKind (kind c)
+
+abbrev pub isChapter : Column → Bool
+isChapter c = chapterKind (kind c)
+
+unfoldable pub isNullable : Column → Bool
+isNullable c = eqb (c .flags) 1
+
+-- the bytes of a length: one if the maximum is under 256, else four
+unfoldable pub prefixSize : Column → ℕ
+prefixSize c = pick (ltb (c .maximum) 256) 1 4
+
+-- the bytes in front of a field: its length, where it carries one
+unfoldable pub prefixBytes : Column → ℕ
+unfolding prefixSize
+prefixBytes c = pick (isVariable c) (prefixSize c) 0
+
+-- The error that a length of so many bytes is, by its number; 0 where it is allowed.
+-- It may reach the maximum; in wide text twice the maximum, and it must be even.
+abbrev pub lengthErrorOf : Kind → ℕ → ℕ → ℕ
+lengthErrorOf (Fixed w) maximum length = 0
+lengthErrorOf Variable maximum length = pick (leb length maximum) 0 14
+lengthErrorOf Wide maximum length = pick (leb length (2 * maximum)) (pick (eqb (length % 2) 0) 0 14) 14
+lengthErrorOf Chapter maximum length = 0
+lengthErrorOf Unknown maximum length = 0
+
+unfoldable pub lengthError : Column → ℕ → ℕ
+lengthError c length = lengthErrorOf (kind c) (c .maximum) length
+
+-- what a `LengthCheck` says
+abbrev pub toldLength : LengthCheck → ℕ
+toldLength Allowed = 0
+toldLength (Refused k) = codeOf k

@@ -1,0 +1,3 @@
+pub mod Types
+pub mod Columns
+pub mod Fields

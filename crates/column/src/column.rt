@@ -1,0 +1,111 @@
+// A column of a schema: its type, its flags and its maximum length; and what these decide of its fields.
+ghost use mathlib.Core.Path.{_≡_};
+ghost use Rattle.column.specs.Columns.{isVariable, isChapter, isNullable, width, prefixSize, prefixBytes, lengthError, toldLength};
+use crate::types::ColumnType;
+use crate::types::Kind;
+use wire::error::ErrorKind;
+
+// A column. Flags are 1 for nullable, else 0; the maximum is that of a variable type.
+pub struct Column {
+    pub code: u8,
+    pub flags: u8,
+    pub maximum: u16,
+}
+
+// What the rules say of a field's length.
+pub enum LengthCheck {
+    Allowed,
+    Refused(ErrorKind),
+}
+
+impl Column {
+    // Whether the column's fields carry a length.
+    pub fn is_variable(self) -> bool
+        ensures { λ r. ⌜ r ≡ isVariable self ⌝ }
+    {
+        let code = self.code;
+        match (ColumnType { code }).kind() {
+            Kind::Fixed(_) => false,
+            Kind::Variable => true,
+            Kind::Wide => true,
+            Kind::Chapter => false,
+            Kind::Unknown => false,
+        }
+    }
+
+    // Whether the column is a chapter, which has no field.
+    pub fn is_chapter(self) -> bool
+        ensures { λ r. ⌜ r ≡ isChapter self ⌝ }
+    {
+        let code = self.code;
+        match (ColumnType { code }).kind() {
+            Kind::Fixed(_) => false,
+            Kind::Variable => false,
+            Kind::Wide => false,
+            Kind::Chapter => true,
+            Kind::Unknown => false,
+        }
+    }
+
+    // Whether the column may be null.
+    pub fn is_nullable(self) -> bool
+        ensures { λ r. ⌜ r ≡ isNullable self ⌝ }
+    {
+        self.flags == 1
+    }
+
+    // The bytes of a field of fixed width; 0 for other columns.
+    pub fn width(self) -> usize
+        ensures { λ r. ⌜ r ≡ width self ⌝ }
+    {
+        let code = self.code;
+        (ColumnType { code }).width()
+    }
+
+    // The bytes that a length of this column takes: one or four.
+    pub fn prefix_size(self) -> usize
+        ensures { λ r. ⌜ r ≡ prefixSize self ⌝ }
+    {
+        if self.maximum < 256 { 1 } else { 4 }
+    }
+
+    // The bytes in front of the column's fields: those of a length, where it has one.
+    pub fn prefix_bytes(self) -> usize
+        ensures { λ r. ⌜ r ≡ prefixBytes self ⌝ }
+    {
+        if self.is_variable() {
+            self.prefix_size()
+        } else {
+            0
+        }
+    }
+
+    // Whether a field of the column may have this length.
+    pub fn length_error(self, length: usize) -> LengthCheck
+        ensures { λ r. ⌜ toldLength r ≡ lengthError self length ⌝ }
+    {
+        let code = self.code;
+        let maximum = self.maximum as usize;
+        match (ColumnType { code }).kind() {
+            Kind::Fixed(_) => LengthCheck::Allowed,
+            Kind::Variable => {
+                if maximum < length {
+                    LengthCheck::Refused(ErrorKind::Length)
+                } else {
+                    LengthCheck::Allowed
+                }
+            }
+            Kind::Wide => {
+                if 2 * maximum < length {
+                    LengthCheck::Refused(ErrorKind::Length)
+                } else if length % 2 != 0 {
+                    LengthCheck::Refused(ErrorKind::Length)
+                } else {
+                    LengthCheck::Allowed
+                }
+            }
+            Kind::Chapter => LengthCheck::Allowed,
+            Kind::Unknown => LengthCheck::Allowed,
+        }
+    }
+}

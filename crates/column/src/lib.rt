@@ -1,0 +1,6 @@
+// Columns: the types and their widths, one column, and one field at a position of a row.
+// Look-ups, the section reader and the writers all go through these. It knows nothing of maps, schemas or plans.
+
+pub mod column;
+pub mod field;
+pub mod types;

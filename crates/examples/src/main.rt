@@ -1,0 +1,7 @@
+// Runs the examples of document 01 that are not proved as theorems, and prints a line for each.
+
+mod head;
+
+fn main() {
+    head::run();
+}

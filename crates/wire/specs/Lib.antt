@@ -1,0 +1,5 @@
+pub mod Errors
+pub mod Read
+pub mod Integers
+pub mod Bits
+pub mod Output
