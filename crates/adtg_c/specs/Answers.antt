@@ -6,6 +6,7 @@ use mathlib.Core.List.{List, [], _∷_, _++_}
 use lib.ListN.{length, replicate}
 use Rattle.wire.specs.Errors.{inputNumber}
 use Rattle.wire.specs.Read.{Read, ok, bad}
+use Rattle.schema.specs.Questions.{Counts, Asked}
 use Rattle.header.specs.declared.header.Header.{Header}
 use Rattle.header.specs.declared.options.Options.{Options}
 
@@ -45,3 +46,11 @@ abbrev pub optionsValues : Options → List ℕ
 optionsValues o =
     o .update ∷ o .strings .first .start ∷ o .strings .first .end ∷ o .strings .second .start ∷ o .strings .second .end
     ∷ o .strings .third .start ∷ o .strings .third .end ∷ o .asynchronous ∷ o .end ∷ []
+
+-- the values of a schema file: how many schemas and columns it has
+abbrev pub countsValues : Counts → List ℕ
+countsValues c = c .schemas ∷ c .columns ∷ []
+
+-- the values of a column: type code, flags, maximum, child id, number of a chapter's schema
+abbrev pub columnValues : Asked → List ℕ
+columnValues a = a .column .code ∷ a .column .flags ∷ a .column .maximum ∷ a .column .id ∷ a .nested ∷ []

@@ -4,3 +4,4 @@
 
 pub mod answer;
 pub mod head;
+pub mod schemas;

@@ -1,3 +1,4 @@
 pub mod Types
 pub mod Columns
 pub mod Fields
+pub mod Layout

@@ -2,5 +2,6 @@
 // Look-ups, the section reader and the writers all go through these. It knows nothing of maps, schemas or plans.
 
 pub mod column;
+pub mod columns;
 pub mod field;
 pub mod types;

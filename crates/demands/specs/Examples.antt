@@ -5,23 +5,35 @@ use mathlib.Core.List.{List, [], _∷_}
 use Rattle.wire.specs.Read.{Bytes, Read, ok, bad}
 use Rattle.header.specs.declared.header.Header.{Header}
 use Rattle.header.specs.Header.{headerOf}
+use Rattle.schema.specs.Schemas.{Entry, entry, Schema, schema, readSchemas}
 
 -- a call with its inputs
 pub data Call : Type 0 where
   readHeader : Bytes → Call
+  readSchema : Bytes → Call
 
--- an answer in the paper's words: where a piece ends, or an error by its number and place
+-- an answer in the paper's words: where a piece ends, the columns of the top schema, or an error by its number and place
 pub data Said : Type 0 where
   endsAt : ℕ → Said
+  columnsAre : List Entry → Said
   refusedAt : ℕ → ℕ → Said
 
 abbrev pub sayEnd : Read Header → Said
 sayEnd (ok h) = endsAt (h .end)
 sayEnd (bad code offset about) = refusedAt code offset
 
+abbrev pub topOf : List Schema → List Entry
+topOf [] = []
+topOf (s ∷ schemas) = s .columns
+
+abbrev pub sayColumns : Read (List Schema) → Said
+sayColumns (ok schemas) = columnsAre (topOf schemas)
+sayColumns (bad code offset about) = refusedAt code offset
+
 -- what the definitions answer to a call
 abbrev pub answerTo : Call → Said
 answerTo (readHeader bytes) = sayEnd (headerOf bytes)
+answerTo (readSchema bytes) = sayColumns (readSchemas bytes)
 
 pub record Example : Type 0 where
   pub call : Call
@@ -30,9 +42,15 @@ pub record Example : Type 0 where
 abbrev pub example : Call → Said → Example
 example c s = record { call = c; said = s }
 
+-- Sheet S of the paper: a four-byte integer; nullable wide text, 10; a nullable byte
+abbrev pub S : Bytes
+S = 0x03 ∷ 0x03 ∷ 0x00 ∷ 0x82 ∷ 0x01 ∷ 0x01 ∷ 0x0A ∷ 0x11 ∷ 0x01 ∷ []
+
 -- the list, in the paper's order
 unfoldable pub examples : List Example
 examples =
     example (readHeader (0x01 ∷ 0x07 ∷ 0x54 ∷ 0x47 ∷ 0x21 ∷ 0x01 ∷ 0x00 ∷ 0x00 ∷ 0x00 ∷ [])) (endsAt 9)
     ∷ example (readHeader (0x01 ∷ 0x08 ∷ [])) (refusedAt 2 1)
+    ∷ example (readSchema S) (columnsAre (entry 0x03 0 0 0 ∷ entry 0x82 1 10 0 ∷ entry 0x11 1 0 0 ∷ []))
+    ∷ example (readSchema (0x83 ∷ 0x00 ∷ [])) (refusedAt 5 0)
     ∷ []

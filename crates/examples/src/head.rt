@@ -67,7 +67,7 @@ fn show_span(x: Span) {
 }
 
 // An error in the paper's form.
-fn show_error(e: Error) {
+pub fn show_error(e: Error) {
     let kind = e.kind;
     io::write_all(OUT, b"refused ");
     io::print_decimal(OUT, kind.code() as u64);
@@ -76,6 +76,6 @@ fn show_error(e: Error) {
     io::write_all(OUT, b"\n");
 }
 
-fn show_number(n: usize) {
+pub fn show_number(n: usize) {
     io::print_decimal(OUT, n as u64);
 }

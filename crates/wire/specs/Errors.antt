@@ -51,3 +51,4 @@ inputNumber input.FirstString = 16
 inputNumber input.SecondString = 17
 inputNumber input.ThirdString = 18
 inputNumber input.Async = 19
+inputNumber input.ChildId = 20

@@ -49,6 +49,7 @@ pub enum Input {
     SecondString,
     ThirdString,
     Async,
+    ChildId,
 }
 
 // A refusal. The offset is the paper's place.
@@ -114,6 +115,7 @@ impl Input {
             Input::SecondString => 17,
             Input::ThirdString => 18,
             Input::Async => 19,
+            Input::ChildId => 20,
         }
     }
 }

@@ -1,0 +1,113 @@
+// The schema file: how much it has, its schemas and columns.
+ghost use Rattle.schema.specs.Questions.{countsOf, columnCountOf, columnOf, childOf, toldSize};
+ghost use Rattle.adtg_c.specs.Answers.{Answered, sizeValues, countsValues, columnValues};
+use crate::answer::refuse;
+use schema::file::ColumnRead;
+use schema::file::CountsRead;
+use schema::file::SizeRead;
+use schema::file::child_schema;
+use schema::file::column_at;
+use schema::file::column_count;
+use schema::file::count_file;
+
+// How many schemas and columns a schema file has.
+#[no_mangle]
+pub extern "C" fn adtg_read_schema(file: &[u8], out: &mut [u64; 16]) -> u32
+    ensures { λ r. ⌜ Answered countsValues (countsOf (now (file .entry))) r (now (out .exit)) ⌝ }
+{
+    match count_file(file) {
+        CountsRead::Refused(e) => refuse(e, out),
+        CountsRead::Counts { schemas, columns } => {
+            *out = [
+                schemas as u64,
+                columns as u64,
+                0,
+                0,
+                0,
+                0,
+                0,
+                0,
+                0,
+                0,
+                0,
+                0,
+                0,
+                0,
+                0,
+                0,
+            ];
+            0
+        }
+    }
+}
+
+// The answer of a call that gives one number.
+fn answer_size(size: SizeRead, out: &mut [u64; 16]) -> u32
+    ensures { λ r. ⌜ Answered sizeValues (toldSize size) r (now (out .exit)) ⌝ }
+{
+    match size {
+        SizeRead::Refused(e) => refuse(e, out),
+        SizeRead::Size(n) => {
+            *out = [n as u64, 0, 0, 0, 0, 0, 0, 0, 0, 0, 0, 0, 0, 0, 0, 0];
+            0
+        }
+    }
+}
+
+// How many columns schema `number` of a file has.
+#[no_mangle]
+pub extern "C" fn adtg_schema_columns(file: &[u8], number: usize, out: &mut [u64; 16]) -> u32
+    ensures { λ r. ⌜ Answered sizeValues (columnCountOf (now (file .entry)) number) r (now (out .exit)) ⌝ }
+{
+    answer_size(column_count(file, number), out)
+}
+
+// The number of the schema with a child id.
+#[no_mangle]
+pub extern "C" fn adtg_schema_of_child(file: &[u8], id: u32, out: &mut [u64; 16]) -> u32
+    ensures { λ r. ⌜ Answered sizeValues (childOf (now (file .entry)) id) r (now (out .exit)) ⌝ }
+{
+    answer_size(child_schema(file, id), out)
+}
+
+// Column `column` of schema `number`: type code, flags, maximum, child id, number of a chapter's schema.
+#[no_mangle]
+pub extern "C" fn adtg_schema_column(
+    file: &[u8],
+    number: usize,
+    column: usize,
+    out: &mut [u64; 16],
+) -> u32
+    ensures { λ r. ⌜ Answered columnValues (columnOf (now (file .entry)) number column) r (now (out .exit)) ⌝ }
+{
+    match column_at(file, number, column) {
+        ColumnRead::Refused(e) => refuse(e, out),
+        ColumnRead::Column {
+            code,
+            flags,
+            maximum,
+            id,
+            nested,
+        } => {
+            *out = [
+                code as u64,
+                flags as u64,
+                maximum as u64,
+                id as u64,
+                nested as u64,
+                0,
+                0,
+                0,
+                0,
+                0,
+                0,
+                0,
+                0,
+                0,
+                0,
+                0,
+            ];
+            0
+        }
+    }
+}

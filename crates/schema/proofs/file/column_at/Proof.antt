@@ -1,0 +1,50 @@
+-- The column's slot tells its numbers, and the ids of the schemas a chapter's schema.
+-- Assumes nothing.
+use Prim.Native.Nat.{ℕ, _+_, _<_, _≤_}
+use mathlib.Core.Path.{_≡_, refl, sym, ap, _∙_}
+use mathlib.Core.List.{List}
+use lib.ListN.{length-replicate}
+use borrow.Author.Tests.{eq-eqb, ne-eqb}
+use Rattle.wire.specs.Read.{Bytes, Read, ok, refused}
+use Rattle.schema.specs.declared.file.Opened.{Opened}
+use Rattle.schema.specs.Tree.{chapterCode}
+use Rattle.schema.specs.Schemas.{childNumber}
+use Rattle.schema.specs.Table.{schemasIn, entryIn, entriesIn}
+use Rattle.schema.specs.Questions.{Slots, selectedOf, selected, toldOpened, columnOf}
+use Rattle.schema.proofs.Questions.{select-refused, column-none, column-chapter, column-plain}
+use borrow.Author.Needs.{needs}
+use native.Mathlib.Omega.{arith}
+use Rattle.schema.proofs.file.column_at.Statement.{statement}
+use Rattle.schema.proofs.file.column_at.Tie as tie
+
+returns : tie.Need-returns
+returns c = sym (column-none (c .before .before .before .before .before .before .before .args .file .now) (c .before .before .before .before .before .before .before .args .number) (c .before .before .before .before .before .before .before .args .column) _ _ _ (c .before .before .before .before .open-schema .last .1 .1 .0) (sym (c .before .before .before .before .open-schema .ensures .answers) ∙ ap (λ (r : Opened). toldOpened r (c .before .before .before .before .open-schema .last .1 .1 .0)) (c .before .before .start .given .1)) (c .if1 .taken))
+
+child-number-requires : tie.Need-child-number-requires
+child-number-requires c κs = let s : Slots (c .before .before .before .before .start .given .0 .0) (c .before .before .before .before .start .given .0 .1 .0) (c .before .before .before .before .start .given .0 .1 .1 .0) = rw (c .before .before .before .before .start .given .1) at (c .before .before .before .before .before .before .open-schema .ensures .slots) in (s .some, s .all)
+
+returns-2 : tie.Need-returns-2
+returns-2 c = sym (column-chapter (c .before .before .before .before .before .before .before .before .before .before .args .file .now) (c .before .before .before .before .before .before .before .before .before .before .args .number) (c .before .before .before .before .before .before .before .before .before .before .args .column) _ _ _ (c .before .before .before .before .before .before .before .open-schema .last .1 .1 .0) (sym (c .before .before .before .before .before .before .before .open-schema .ensures .answers) ∙ ap (λ (r : Opened). toldOpened r (c .before .before .before .before .before .before .before .open-schema .last .1 .1 .0)) (c .before .before .before .before .before .start .given .1)) (c .before .before .before .if1 .left) _ (c .before .before .if2 .taken) (c .child-number .ensures))
+
+returns-3 : tie.Need-returns-3
+unfolding columnOf
+returns-3 c = sym (select-refused (c .before .before .before .before .before .before .args .file .now) (c .before .before .before .before .before .before .args .number) _ (c .before .e .given .0 .0) (sym (c .before .before .before .open-schema .ensures .answers) ∙ ap (λ (r : Opened). toldOpened r (c .before .before .before .open-schema .last .1 .1 .0)) (c .before .e .given .1)))
+
+returns-4 : tie.Need-returns-4
+returns-4 c = sym (column-plain (c .before .before .before .before .before .before .before .before .args .file .now) (c .before .before .before .before .before .before .before .before .args .number) (c .before .before .before .before .before .before .before .before .args .column) _ _ _ (c .before .before .before .before .before .open-schema .last .1 .1 .0) (sym (c .before .before .before .before .before .open-schema .ensures .answers) ∙ ap (λ (r : Opened). toldOpened r (c .before .before .before .before .before .open-schema .last .1 .1 .0)) (c .before .before .before .start .given .1)) (c .before .if1 .left) (c .if2 .left))
+
+pub column-at-spec : {M : Type 1} → statement M
+column-at-spec =
+    tie.close
+    (tie.spec
+    (λ c κs. search needs)
+    (λ c. search needs)
+    (λ c. search needs)
+    returns
+    (λ c. let s : Slots (c .before .before .start .given .0 .0) (c .before .before .start .given .0 .1 .0) (c .before .before .start .given .0 .1 .1 .0) = rw (c .before .before .start .given .1) at (c .before .before .before .before .open-schema .ensures .slots) in omega (arith, s .inside, c .if1 .left))
+    (λ c. let s : Slots (c .before .before .start .given .0 .0) (c .before .before .start .given .0 .1 .0) (c .before .before .start .given .0 .1 .1 .0) = rw (c .before .before .start .given .1) at (c .before .before .before .before .open-schema .ensures .slots) in omega (arith, s .inside, c .if1 .left))
+    (λ c. let s : Slots (c .before .before .start .given .0 .0) (c .before .before .start .given .0 .1 .0) (c .before .before .start .given .0 .1 .1 .0) = rw (c .before .before .start .given .1) at (c .before .before .before .before .open-schema .ensures .slots) in omega (arith, s .inside, c .if1 .left))
+    child-number-requires
+    returns-2
+    returns-3
+    returns-4)

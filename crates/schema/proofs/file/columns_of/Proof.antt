@@ -1,0 +1,43 @@
+-- The arrays that were filled are the layout of the columns that were found.
+-- Assumes nothing.
+use Prim.Native.Nat.{ℕ}
+use mathlib.Core.Path.{sym, ap, _∙_}
+use mathlib.Core.List.{List}
+use Rattle.column.specs.Layout.{padded, layout}
+use Rattle.schema.specs.declared.file.Opened.{Opened}
+use Rattle.schema.specs.Questions.{toldOpened}
+use Rattle.schema.proofs.Layouts.{opened-slots, columned-refused, columned-found}
+use borrow.Author.Needs.{needs}
+use Rattle.schema.proofs.file.columns_of.Statement.{statement}
+use Rattle.schema.proofs.file.columns_of.Tie as tie
+
+codes-of-requires : tie.Need-codes-of-requires
+codes-of-requires c κs = opened-slots (c .before .before .start .given .1) (c .before .before .before .before .open-schema .ensures .slots)
+
+flags-of-requires : tie.Need-flags-of-requires
+flags-of-requires c κs = opened-slots (c .before .before .before .before .start .given .1) (c .before .before .before .before .before .before .open-schema .ensures .slots)
+
+maxima-of-requires : tie.Need-maxima-of-requires
+maxima-of-requires c κs = opened-slots (c .before .before .before .before .before .before .start .given .1) (c .before .before .before .before .before .before .before .before .open-schema .ensures .slots)
+
+returns : tie.Need-returns
+unfolding layout padded
+returns c = columned-refused (c .before .before .before .before .before .before .args .file .now) (c .before .before .before .before .before .before .args .number) (c .before .e .given .0 .0) (sym (c .before .before .before .open-schema .ensures .answers) ∙ ap (λ (r : Opened). toldOpened r (c .before .before .before .open-schema .last .1 .1 .0)) (c .before .e .given .1))
+
+returns-2 : tie.Need-returns-2
+returns-2 c =
+    let exit : List ℕ = c .before .before .before .before .before .before .before .before .before .open-schema .last .1 .1 .0 in
+    columned-found (c .before .before .before .before .before .before .before .before .before .before .before .before .args .file .now) (c .before .before .before .before .before .before .before .before .before .before .before .before .args .number) _ exit _ _ (sym (c .before .before .before .before .before .before .before .before .before .open-schema .ensures .answers) ∙ ap (λ (r : Opened). toldOpened r exit) (c .before .before .before .before .before .before .before .start .given .1)) (c .before .before .before .before .codes-of .ensures) (c .before .before .flags-of .ensures) (c .maxima-of .ensures)
+
+pub columns-of-spec : {M : Type 1} → statement M
+columns-of-spec =
+    tie.close
+    (tie.spec
+    (λ c κs. search needs)
+    (λ c. search needs)
+    (λ c. search needs)
+    codes-of-requires
+    flags-of-requires
+    maxima-of-requires
+    returns
+    returns-2)

@@ -1,0 +1,9 @@
+pub mod Numbers
+pub mod Tree
+pub mod Reader
+pub mod Schemas
+pub mod Table
+pub mod Filling
+pub mod Heads
+pub mod Told
+pub mod Questions
