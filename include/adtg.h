@@ -7,7 +7,7 @@
  * the number of the error, and out[0] is the offset (the place) and out[1] the input that the error concerns. All other
  * numbers of `out` are 0.
  *
- * A writer writes at the start of its output and leaves the bytes after the piece; an error leaves the whole output.
+ * A writer writes at the start of its output or table and leaves what follows the piece; an error leaves all of it.
  */
 #ifndef ADTG_H
 #define ADTG_H
@@ -25,20 +25,32 @@ enum adtg_error {
     ADTG_CONSTANT = 2,       /* a constant byte differs; offset: that byte */
     ADTG_VALUE = 3,          /* byte order, unicode or async option; offset: the field */
     ADTG_OPTIONS_SIZE = 4,   /* the size of the handler options is wrong; offset: 1 */
-    ADTG_CAPACITY = 16,      /* the output is too small; offset: the bytes that the piece needs */
+    ADTG_NUMBER_FORM = 5,    /* a number is too long or not in its shortest form; offset: its start */
+    ADTG_RANGE = 6,          /* a count, type, flags or maximum is out of range; offset: its start */
+    ADTG_LIMIT = 7,          /* depth 5, or column 257 of a file; offset: the count */
+    ADTG_REPEATED_ID = 8,    /* a child id is repeated; offset: its start */
+    ADTG_TRAILING = 15,      /* bytes after the end; offset: the first of them */
+    ADTG_CAPACITY = 16,      /* the output or table is too small; offset: the bytes or numbers needed */
+    ADTG_MISSING = 18,       /* no such schema, column or child id; offset: 0 */
     ADTG_TOO_LARGE = 19      /* an input has more than 16,777,216 bytes; offset: 0 */
 };
 
 /* Inputs that an error can concern. */
 enum adtg_input {
     ADTG_SINGLE = 0,         /* the call's one input */
+    ADTG_SCHEMA = 1,         /* the schema file */
+    ADTG_SCHEMA_NUMBER = 2,
+    ADTG_COLUMN = 5,
+    ADTG_TABLE = 7,
     ADTG_OUTPUT = 8,
+    ADTG_NUMBERS = 13,
     ADTG_ORDER = 14,
     ADTG_UNICODE = 15,
     ADTG_FIRST_STRING = 16,
     ADTG_SECOND_STRING = 17,
     ADTG_THIRD_STRING = 18,
-    ADTG_ASYNC = 19
+    ADTG_ASYNC = 19,
+    ADTG_CHILD_ID = 20
 };
 
 /* Reads the header at the start of `bytes`.
@@ -66,6 +78,32 @@ uint32_t adtg_write_options(const uint8_t *first, size_t first_length,
                             const uint8_t *third, size_t third_length,
                             uint16_t async_option,
                             uint8_t *output, size_t capacity, uint64_t out[16]);
+
+/* Reads a whole schema file. Schemas are numbered from 0 by where they start.
+ * out: schemas, columns of all of them. */
+uint32_t adtg_read_schema(const uint8_t *file, size_t length, uint64_t out[16]);
+
+/* Asks for a schema of a file.
+ * out: how many columns it has. */
+uint32_t adtg_schema_columns(const uint8_t *file, size_t length, size_t number, uint64_t out[16]);
+
+/* Asks for a column of a schema.
+ * out: type code, flags, maximum (0 where the type has none), child id and number of a chapter's schema (0 for others). */
+uint32_t adtg_schema_column(const uint8_t *file, size_t length, size_t number, size_t column, uint64_t out[16]);
+
+/* Asks for the schema with a child id.
+ * out: its number. */
+uint32_t adtg_schema_of_child(const uint8_t *file, size_t length, uint32_t id, uint64_t out[16]);
+
+/* Writes a schema file from the numbers that it is made of.
+ * out: bytes written. */
+uint32_t adtg_write_schema(const uint32_t *numbers, size_t count,
+                           uint8_t *output, size_t capacity, uint64_t out[16]);
+
+/* Lists the numbers that a schema file is made of at the start of a table, and leaves the rest of the table.
+ * out: how many numbers. */
+uint32_t adtg_schema_numbers(const uint8_t *file, size_t length,
+                             uint32_t *table, size_t capacity, uint64_t out[16]);
 
 #ifdef __cplusplus
 }

@@ -3,6 +3,7 @@
 
 use crate::reading::header::Header;
 use crate::reading::options::Options;
+use crate::reading::schema::{Counts, Description};
 use crate::reading::{Error, ErrorCode, Input};
 
 /// The numbers that every call fills.
@@ -40,6 +41,30 @@ extern "C" {
         async_option: u16,
         output: *mut u8,
         output_len: usize,
+        out: *mut Out,
+    ) -> u32;
+    fn adtg_read_schema(bytes: *const u8, len: usize, out: *mut Out) -> u32;
+    fn adtg_schema_columns(bytes: *const u8, len: usize, number: usize, out: *mut Out) -> u32;
+    fn adtg_schema_column(
+        bytes: *const u8,
+        len: usize,
+        number: usize,
+        column: usize,
+        out: *mut Out,
+    ) -> u32;
+    fn adtg_schema_of_child(bytes: *const u8, len: usize, id: u32, out: *mut Out) -> u32;
+    fn adtg_write_schema(
+        numbers: *const u32,
+        count: usize,
+        output: *mut u8,
+        output_len: usize,
+        out: *mut Out,
+    ) -> u32;
+    fn adtg_schema_numbers(
+        bytes: *const u8,
+        len: usize,
+        table: *mut u32,
+        table_len: usize,
         out: *mut Out,
     ) -> u32;
 }
@@ -145,7 +170,84 @@ pub fn write_options(strings: [&[u8]; 3], async_option: u16, output: &mut [u8]) 
     decode(code, out, 1, one_size)
 }
 
-/// The one number of a writer's success.
+/// The archive's counts of a schema file.
+pub fn read_schema(bytes: &[u8]) -> Reply<Counts> {
+    let mut out = UNTOUCHED;
+    // SAFETY: as in `read_header`.
+    let code = unsafe { adtg_read_schema(bytes.as_ptr(), bytes.len(), &mut out) };
+    decode(code, out, 2, |numbers| {
+        Some(Counts {
+            schemas: usize::try_from(numbers[0]).ok()?,
+            columns: usize::try_from(numbers[1]).ok()?,
+        })
+    })
+}
+
+/// The archive's count of the columns of one schema.
+pub fn schema_columns(bytes: &[u8], number: usize) -> Reply<usize> {
+    let mut out = UNTOUCHED;
+    // SAFETY: as in `read_header`.
+    let code = unsafe { adtg_schema_columns(bytes.as_ptr(), bytes.len(), number, &mut out) };
+    decode(code, out, 1, one_size)
+}
+
+/// What the archive says about one column of one schema.
+pub fn schema_column(bytes: &[u8], number: usize, column: usize) -> Reply<Description> {
+    let mut out = UNTOUCHED;
+    // SAFETY: as in `read_header`.
+    let code = unsafe { adtg_schema_column(bytes.as_ptr(), bytes.len(), number, column, &mut out) };
+    decode(code, out, 5, |numbers| {
+        Some(Description {
+            code: u8::try_from(numbers[0]).ok()?,
+            flags: u8::try_from(numbers[1]).ok()?,
+            maximum: u16::try_from(numbers[2]).ok()?,
+            child_id: u32::try_from(numbers[3]).ok()?,
+            nested: usize::try_from(numbers[4]).ok()?,
+        })
+    })
+}
+
+/// The archive's number of the schema with this child id.
+pub fn schema_of_child(bytes: &[u8], id: u32) -> Reply<usize> {
+    let mut out = UNTOUCHED;
+    // SAFETY: as in `read_header`.
+    let code = unsafe { adtg_schema_of_child(bytes.as_ptr(), bytes.len(), id, &mut out) };
+    decode(code, out, 1, one_size)
+}
+
+/// The archive's schema writer: bytes written at the start of `output`.
+pub fn write_schema(numbers: &[u32], output: &mut [u8]) -> Reply<usize> {
+    let mut out = UNTOUCHED;
+    // SAFETY: as in `write_options`; the count is that of the list.
+    let code = unsafe {
+        adtg_write_schema(
+            numbers.as_ptr(),
+            numbers.len(),
+            output.as_mut_ptr(),
+            output.len(),
+            &mut out,
+        )
+    };
+    decode(code, out, 1, one_size)
+}
+
+/// The archive's list of a schema file's numbers: how many stand at the start of `table`.
+pub fn schema_numbers(bytes: &[u8], table: &mut [u32]) -> Reply<usize> {
+    let mut out = UNTOUCHED;
+    // SAFETY: as in `write_schema`.
+    let code = unsafe {
+        adtg_schema_numbers(
+            bytes.as_ptr(),
+            bytes.len(),
+            table.as_mut_ptr(),
+            table.len(),
+            &mut out,
+        )
+    };
+    decode(code, out, 1, one_size)
+}
+
+/// The one number of an answer that is a size or a count.
 fn one_size(numbers: &Out) -> Option<usize> {
     usize::try_from(numbers[0]).ok()
 }
@@ -204,7 +306,7 @@ mod tests {
         let error = Error::new(ErrorCode::Capacity, 9, Input::Output);
         let reply = decode(16, numbers(&[9, 8]), 1, one_size);
         assert_eq!(reply, Err(Fault::Error(error)));
-        for (code, first) in [(21, [9, 8, 0]), (16, [9, 20, 0]), (16, [9, 8, 1])] {
+        for (code, first) in [(21, [9, 8, 0]), (16, [9, 21, 0]), (16, [9, 8, 1])] {
             let out = numbers(&first);
             assert_eq!(decode(code, out, 1, one_size), malformed(code, out));
         }

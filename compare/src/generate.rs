@@ -1,4 +1,5 @@
-//! Random schemas, rows and sections that keep the rules.
+//! Random schemas, rows and sections that keep the rules, and schemas of a form that may
+//! break them.
 
 use crate::random::Random;
 use crate::reading::column::{Column, Kind, BYTES, CHAPTER, FIXED, TEXT, WIDE_TEXT};
@@ -7,7 +8,8 @@ use crate::reading::schema::{write_schema, SchemaFile, MAX_COLUMNS, MAX_FILE_COL
 use crate::reading::{Error, Input};
 
 const MAX_DEPTH: usize = 4;
-const MAX_ID: usize = (1 << 21) - 1;
+/// The largest child id that a file can say.
+pub const MAX_ID: usize = (1 << 21) - 1;
 
 /// A schema file, and the same taken apart.
 pub fn schema_file(random: &mut Random) -> (Vec<u8>, SchemaFile) {
@@ -21,23 +23,121 @@ pub fn schema_file(random: &mut Random) -> (Vec<u8>, SchemaFile) {
 
 /// The numbers of a schema file.
 pub fn schema_numbers(random: &mut Random) -> Vec<u32> {
-    let mut maker = Maker {
-        numbers: Vec::new(),
-        ids: Vec::new(),
-        columns_left: MAX_FILE_COLUMNS,
-    };
+    let mut maker = Maker::new(false);
     maker.schema(random, 1);
     maker.numbers
+}
+
+/// The form of a schema file. More than four levels, more than 256 columns, or an id that
+/// occurs twice break the rules. There must be a schema for each level, more than one level
+/// for more than one schema, two columns for each nested schema and at least one in all, and
+/// no more than 64 for each schema.
+#[derive(Clone, Copy, Debug)]
+pub struct Shape {
+    pub schemas: usize,
+    pub columns: usize,
+    pub depth: usize,
+    pub repeats_ids: bool,
+}
+
+/// The numbers of a schema file of this form.
+pub fn shaped_numbers(random: &mut Random, shape: Shape) -> Vec<u32> {
+    let nodes = tree(random, shape);
+    let mut maker = Maker::new(shape.repeats_ids);
+    maker.node(random, &nodes, 0);
+    maker.numbers
+}
+
+/// Numbers as groups of seven bits, shortest form, whether or not they keep the rules.
+pub fn groups(numbers: &[u32]) -> Vec<u8> {
+    let mut bytes = Vec::new();
+    for number in numbers {
+        let mut rest = *number;
+        while rest > 0x7F {
+            bytes.push(rest as u8 | 0x80);
+            rest >>= 7;
+        }
+        bytes.push(rest as u8);
+    }
+    bytes
+}
+
+/// A schema in a tree of them.
+struct Node {
+    depth: usize,
+    columns: usize,
+    children: Vec<usize>,
+}
+
+/// A tree of this form; the top comes first.
+fn tree(random: &mut Random, shape: Shape) -> Vec<Node> {
+    let new_node = |depth| Node {
+        depth,
+        columns: 1,
+        children: Vec::new(),
+    };
+    let mut nodes = vec![new_node(1)];
+    while nodes.len() < shape.schemas {
+        let child = nodes.len();
+        // The first ones reach the depth; the others hang anywhere above it.
+        let parent = if child < shape.depth {
+            child - 1
+        } else {
+            let above = |index: &usize| nodes[*index].depth < shape.depth;
+            let open: Vec<usize> = (0..child).filter(above).collect();
+            random.pick(&open)
+        };
+        nodes[parent].children.push(child);
+        nodes[parent].columns = nodes[parent].children.len();
+        nodes.push(new_node(nodes[parent].depth + 1));
+    }
+    let mut left = shape.columns - nodes.iter().map(|node| node.columns).sum::<usize>();
+    while left > 0 {
+        let node = &mut nodes[random.below(shape.schemas)];
+        let more = random.below(left.min(MAX_COLUMNS - node.columns) + 1);
+        node.columns += more;
+        left -= more;
+    }
+    nodes
 }
 
 /// A schema file in the making.
 struct Maker {
     numbers: Vec<u32>,
     ids: Vec<u32>,
+    repeats_ids: bool,
     columns_left: usize,
 }
 
 impl Maker {
+    fn new(repeats_ids: bool) -> Maker {
+        Maker {
+            numbers: Vec::new(),
+            ids: Vec::new(),
+            repeats_ids,
+            columns_left: MAX_FILE_COLUMNS,
+        }
+    }
+
+    /// Adds the schema of a tree's node, with those nested in it.
+    fn node(&mut self, random: &mut Random, nodes: &[Node], index: usize) {
+        let node = &nodes[index];
+        self.numbers.push(node.columns as u32);
+        let mut children = node.children.iter();
+        for left in (1..=node.columns).rev() {
+            let is_chapter = random.below(left) < children.len();
+            match children.as_slice().first() {
+                Some(child) if is_chapter => {
+                    children.next();
+                    self.chapter(random);
+                    self.node(random, nodes, *child);
+                }
+                _ if random.one_in(2) => self.variable(random),
+                _ => self.fixed(random),
+            }
+        }
+    }
+
     /// Adds a schema; at least one column must be left.
     fn schema(&mut self, random: &mut Random, depth: usize) {
         let wanted = match random.below(8) {
@@ -55,27 +155,43 @@ impl Maker {
 
     fn column(&mut self, random: &mut Random, depth: usize) {
         let may_nest = depth < MAX_DEPTH && self.columns_left > 0;
-        let code = match random.below(8) {
-            0 | 1 if may_nest => CHAPTER,
-            0..=3 => random.pick(&[BYTES, TEXT, WIDE_TEXT]),
-            _ => random.pick(&FIXED).0,
-        };
-        self.numbers.push(u32::from(code));
-        self.numbers.push(random.below(2) as u32);
-        match code {
-            CHAPTER => {
-                let id = self.new_id(random);
-                self.numbers.push(id);
+        match random.below(8) {
+            0 | 1 if may_nest => {
+                self.chapter(random);
                 self.schema(random, depth + 1);
             }
-            BYTES | TEXT | WIDE_TEXT => {
-                let any = random.between(1, 32_767);
-                let small = random.between(1, 12);
-                let maximum = random.pick(&[small, small, 127, 128, 255, 256, 32_767, any]);
-                self.numbers.push(maximum as u32);
-            }
-            _ => {}
+            0..=3 => self.variable(random),
+            _ => self.fixed(random),
         }
+    }
+
+    fn fixed(&mut self, random: &mut Random) {
+        let code = random.pick(&FIXED).0;
+        self.code_and_flags(random, code);
+    }
+
+    fn variable(&mut self, random: &mut Random) {
+        let code = random.pick(&[BYTES, TEXT, WIDE_TEXT]);
+        self.code_and_flags(random, code);
+        let any = random.between(1, 32_767);
+        let small = random.between(1, 12);
+        let maximum = random.pick(&[small, small, 127, 128, 255, 256, 32_767, any]);
+        self.numbers.push(maximum as u32);
+    }
+
+    /// Adds a chapter up to its id; the nested schema must follow.
+    fn chapter(&mut self, random: &mut Random) {
+        self.code_and_flags(random, CHAPTER);
+        let id = match self.ids.is_empty() {
+            false if self.repeats_ids && random.one_in(2) => random.pick(&self.ids),
+            _ => self.new_id(random),
+        };
+        self.numbers.push(id);
+    }
+
+    fn code_and_flags(&mut self, random: &mut Random, code: u8) {
+        self.numbers.push(u32::from(code));
+        self.numbers.push(random.below(2) as u32);
     }
 
     /// An id that no schema has yet.
@@ -83,7 +199,7 @@ impl Maker {
         loop {
             let any = random.between(0, MAX_ID);
             let small = random.below(300);
-            let id = random.pick(&[small, small, any]) as u32;
+            let id = random.pick(&[small, small, small, any, 0, MAX_ID]) as u32;
             if !self.ids.contains(&id) {
                 self.ids.push(id);
                 return id;

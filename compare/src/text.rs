@@ -8,7 +8,7 @@ use crate::reading::header::Header;
 use crate::reading::options::Options;
 use crate::reading::plan::Plan;
 use crate::reading::row;
-use crate::reading::schema::Counts;
+use crate::reading::schema::{Counts, Description};
 use crate::reading::update::Current;
 use crate::reading::Error;
 
@@ -50,6 +50,15 @@ impl Text for Options {
 impl Text for Counts {
     fn text(&self) -> String {
         format!("sheets {} columns {}", self.schemas, self.columns)
+    }
+}
+
+impl Text for Description {
+    fn text(&self) -> String {
+        format!(
+            "column {} {} {} {} {}",
+            self.code, self.flags, self.maximum, self.child_id, self.nested
+        )
     }
 }
 
@@ -164,6 +173,16 @@ pub fn shown(bytes: &[u8]) -> String {
         return hex(bytes);
     }
     format!("{}.. ({} bytes)", hex(&bytes[..SHOWN]), bytes.len())
+}
+
+/// Numbers for a message, with commas between them: a long list is cut, with its length.
+pub fn shown_numbers(numbers: &[u32]) -> String {
+    let first: Vec<String> = numbers.iter().take(SHOWN).map(u32::to_string).collect();
+    match numbers.len() {
+        0 => "-".to_string(),
+        1..=SHOWN => first.join(","),
+        count => format!("{}.. ({count} numbers)", first.join(",")),
+    }
 }
 
 /// The bytes of a hex text, or what is wrong with it.

@@ -153,8 +153,8 @@ fn read_schema_line(inputs: &[&str]) -> Result<Answers, String> {
     })
 }
 
-fn archive_read_schema(_bytes: &[u8]) -> Option<String> {
-    None
+fn archive_read_schema(bytes: &[u8]) -> Option<String> {
+    Some(archive::read_schema(bytes).text())
 }
 
 fn write_schema_line(inputs: &[&str]) -> Result<Answers, String> {
@@ -170,8 +170,10 @@ fn write_schema_line(inputs: &[&str]) -> Result<Answers, String> {
     })
 }
 
-fn archive_write_schema(_numbers: &[u32], _before: &[u8]) -> Option<String> {
-    None
+fn archive_write_schema(numbers: &[u32], before: &[u8]) -> Option<String> {
+    let mut output = before.to_vec();
+    let written = archive::write_schema(numbers, &mut output);
+    Some(written_text(&written, before, &output, 0))
 }
 
 fn look_up_line(inputs: &[&str]) -> Result<Answers, String> {

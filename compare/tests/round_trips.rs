@@ -1,13 +1,15 @@
 //! The reading against itself: what is written reads back, the walk and the plan agree on
 //! sound and damaged rows, and sections give the table that they were made for.
 
-use compare::generate;
+use compare::generate::{self, Shape};
 use compare::random::Random;
 use compare::reading::column::{Column, Kind};
 use compare::reading::encode::Entry;
 use compare::reading::plan::make_plan;
 use compare::reading::row::{field_count, look_up, Answer};
-use compare::reading::schema::{read_schema, SchemaFile};
+use compare::reading::schema::{
+    read_schema, schema_column, schema_columns, schema_numbers, schema_of_child, Counts, SchemaFile,
+};
 use compare::reading::section::read_section;
 use compare::reading::update::{current, Current};
 use compare::reading::{Error, ErrorCode, Input};
@@ -39,6 +41,79 @@ fn prefixes(columns: &[Column], entries: &[Entry]) -> usize {
         column.kind == Kind::Variable && matches!(entry, Entry::Value { .. })
     };
     columns.iter().zip(entries).filter(counts).count()
+}
+
+/// Adds the numbers of a schema and of those nested in it, as its descriptions say them.
+fn described_numbers(file: &[u8], schema: usize, numbers: &mut Vec<u32>) {
+    let count = schema_columns(file, schema).unwrap();
+    numbers.push(count as u32);
+    for index in 0..count {
+        let column = schema_column(file, schema, index).unwrap();
+        numbers.extend([u32::from(column.code), u32::from(column.flags)]);
+        if column.nested > 0 {
+            numbers.push(column.child_id);
+            assert_eq!(schema_of_child(file, column.child_id), Ok(column.nested));
+            described_numbers(file, column.nested, numbers);
+        } else if column.maximum > 0 {
+            numbers.push(u32::from(column.maximum));
+        }
+    }
+}
+
+#[test]
+fn descriptions_give_the_numbers_of_a_file() {
+    let mut random = Random::new(6);
+    for _ in 0..ROUNDS {
+        let numbers = generate::schema_numbers(&mut random);
+        let mut described = Vec::new();
+        let file = generate::groups(&numbers);
+        described_numbers(&file, 0, &mut described);
+        assert_eq!(described, numbers);
+        let mut table = vec![0; numbers.len()];
+        assert_eq!(schema_numbers(&file, &mut table), Ok(numbers.len()));
+        assert_eq!(table, numbers);
+    }
+}
+
+#[test]
+fn a_file_has_the_form_that_it_is_made_for() {
+    let mut random = Random::new(7);
+    let mut repeated = 0;
+    for _ in 0..ROUNDS {
+        let schemas = random.between(5, 40);
+        let shape = Shape {
+            schemas,
+            columns: random.between(2 * schemas, 256),
+            depth: random.between(2, 4),
+            repeats_ids: false,
+        };
+        let mut read = |shape| {
+            let numbers = generate::shaped_numbers(&mut random, shape);
+            read_schema(&generate::groups(&numbers)).map_err(|error| error.code)
+        };
+        for columns in [shape.columns, 256] {
+            let counts = Counts { schemas, columns };
+            assert_eq!(read(Shape { columns, ..shape }), Ok(counts));
+        }
+        let limit = Err(ErrorCode::SchemaLimit);
+        let columns = 257;
+        assert_eq!(read(Shape { columns, ..shape }), limit);
+        let depth = 5;
+        assert_eq!(read(Shape { depth, ..shape }), limit);
+        let repeats_ids = true;
+        match read(Shape {
+            repeats_ids,
+            ..shape
+        }) {
+            Ok(_) => {}
+            Err(code) => {
+                assert_eq!(code, ErrorCode::RepeatedId);
+                repeated += 1;
+            }
+        }
+    }
+    // With four nested schemas or more, chance seldom leaves all ids apart.
+    assert!(repeated > ROUNDS / 2);
 }
 
 #[test]

@@ -3,7 +3,9 @@
 use compare::reading::encode::{write_original, write_update};
 use compare::reading::plan::make_plan;
 use compare::reading::row::{field_count, look_up, Answer};
-use compare::reading::schema::read_schema;
+use compare::reading::schema::{
+    read_schema, schema_column, schema_columns, schema_numbers, schema_of_child,
+};
 use compare::reading::section::read_section;
 use compare::reading::update::current;
 use compare::reading::{Error, ErrorCode, Input, MAX_INPUT};
@@ -21,6 +23,10 @@ fn over<T>(input: Input) -> Result<T, Error> {
 fn an_input_over_the_limit_is_named() {
     let large = vec![0; MAX_INPUT + 1];
     assert_eq!(read_schema(&large), over(Input::Only));
+    assert_eq!(schema_columns(&large, 9), over(Input::Schema));
+    assert_eq!(schema_column(&large, 9, 9), over(Input::Schema));
+    assert_eq!(schema_of_child(&large, 9), over(Input::Schema));
+    assert_eq!(schema_numbers(&large, &mut []), over(Input::Schema));
     assert_eq!(make_plan(&large, 9), over(Input::Schema));
     assert_eq!(look_up(&large, 9, &large, 9), over(Input::Schema));
     assert_eq!(look_up(&BAD, 9, &large, 9), over(Input::Row));

@@ -88,11 +88,12 @@ pub enum Input {
     SecondString = 17,
     ThirdString = 18,
     AsyncOption = 19,
+    ChildId = 20,
 }
 
 impl Input {
     /// All inputs, in the order of their numbers.
-    pub const ALL: [Input; 20] = [
+    pub const ALL: [Input; 21] = [
         Input::Only,
         Input::Schema,
         Input::SchemaNumber,
@@ -113,12 +114,13 @@ impl Input {
         Input::SecondString,
         Input::ThirdString,
         Input::AsyncOption,
+        Input::ChildId,
     ];
 
     /// The three strings of the handler options, in order.
     pub const STRINGS: [Input; 3] = [Input::FirstString, Input::SecondString, Input::ThirdString];
 
-    /// The input's number, 0 to 19.
+    /// The input's number, 0 to 20.
     pub const fn number(self) -> u64 {
         self as u64
     }
@@ -151,6 +153,7 @@ impl Input {
             Input::SecondString => "second string",
             Input::ThirdString => "third string",
             Input::AsyncOption => "async option",
+            Input::ChildId => "child id",
         }
     }
 }
@@ -194,6 +197,6 @@ mod tests {
         }
         assert_eq!(ErrorCode::from_number(0), None);
         assert_eq!(ErrorCode::from_number(21), None);
-        assert_eq!(Input::from_number(20), None);
+        assert_eq!(Input::from_number(21), None);
     }
 }

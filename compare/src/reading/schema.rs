@@ -24,13 +24,15 @@ pub struct SchemaFile {
     schemas: Vec<Schema>,
 }
 
-/// Where the columns of one schema lie, and its child id. The top schema has no id, and its
-/// number there means nothing.
+/// Where the columns of one schema lie, its child id, and the slot of the chapter column that
+/// it is nested in. The top schema has neither id nor chapter, and its numbers there mean
+/// nothing.
 #[derive(Clone, Copy, Debug)]
 struct Schema {
     first: usize,
     count: usize,
     id: u32,
+    chapter: usize,
 }
 
 /// How much a schema file holds.
@@ -38,6 +40,19 @@ struct Schema {
 pub struct Counts {
     pub schemas: usize,
     pub columns: usize,
+}
+
+/// What a file says about one of its columns.
+#[derive(Clone, Copy, Debug, PartialEq, Eq)]
+pub struct Description {
+    pub code: u8,
+    pub flags: u8,
+    /// 0 where the type has none.
+    pub maximum: u16,
+    /// The child id of a chapter and the number of the schema nested in it; 0 for any other
+    /// column.
+    pub child_id: u32,
+    pub nested: usize,
 }
 
 /// The counts of a schema file that is the whole of `bytes`.
@@ -48,6 +63,56 @@ pub fn read_schema(bytes: &[u8]) -> Result<Counts, Error> {
         schemas: file.schemas.len(),
         columns: file.columns.len(),
     })
+}
+
+/// How many columns the schema with this number has.
+pub fn schema_columns(bytes: &[u8], number: usize) -> Result<usize, Error> {
+    check_size(bytes, Input::Schema)?;
+    let file = SchemaFile::read(bytes, Input::Schema)?;
+    let index = file.index_of_number(number)?;
+    Ok(file.schemas[index].count)
+}
+
+/// What the file says about a column of the schema with this number.
+pub fn schema_column(bytes: &[u8], number: usize, column: usize) -> Result<Description, Error> {
+    check_size(bytes, Input::Schema)?;
+    let file = SchemaFile::read(bytes, Input::Schema)?;
+    let index = file.index_of_number(number)?;
+    let Schema { first, count, .. } = file.schemas[index];
+    if column >= count {
+        return Err(Error::new(ErrorCode::NoSuch, 0, Input::Column));
+    }
+    Ok(file.describe(first + column))
+}
+
+/// The number of the schema with this child id.
+pub fn schema_of_child(bytes: &[u8], id: u32) -> Result<usize, Error> {
+    check_size(bytes, Input::Schema)?;
+    let file = SchemaFile::read(bytes, Input::Schema)?;
+    file.index_of_id(id)
+        .ok_or(Error::new(ErrorCode::NoSuch, 0, Input::ChildId))
+}
+
+/// Puts the numbers of a schema file at the start of `table` and answers how many they are.
+pub fn schema_numbers(bytes: &[u8], table: &mut [u32]) -> Result<usize, Error> {
+    check_size(bytes, Input::Schema)?;
+    SchemaFile::read(bytes, Input::Schema)?;
+    let mut source = ByteNumbers {
+        bytes,
+        at: 0,
+        input: Input::Schema,
+    };
+    let mut numbers = Vec::new();
+    while !source.is_at_end() {
+        numbers.push(source.number()?);
+    }
+    let count = numbers.len();
+    let start =
+        table
+            .get_mut(..count)
+            .ok_or(Error::new(ErrorCode::Capacity, count, Input::Table))?;
+    start.copy_from_slice(&numbers);
+    Ok(count)
 }
 
 /// Writes the schema file that is made of these numbers at the start of `output` and answers
@@ -91,11 +156,16 @@ impl SchemaFile {
 
     /// The columns of the schema with this number, or error 18.
     pub fn columns(&self, number: u32) -> Result<&[Column], Error> {
-        let index = number as usize;
-        if index >= self.schemas.len() {
+        let index = self.index_of_number(number as usize)?;
+        Ok(self.columns_at(index))
+    }
+
+    /// The index of the schema with this number, which is the number itself, or error 18.
+    fn index_of_number(&self, number: usize) -> Result<usize, Error> {
+        if number >= self.schemas.len() {
             return Err(Error::new(ErrorCode::NoSuch, 0, Input::SchemaNumber));
         }
-        Ok(self.columns_at(index))
+        Ok(number)
     }
 
     /// The columns of the schema at this index, which must be under the count.
@@ -115,25 +185,39 @@ impl SchemaFile {
         Some(1 + nested.iter().position(|schema| schema.id == id)?)
     }
 
+    /// What the file says about the column in this slot.
+    fn describe(&self, slot: usize) -> Description {
+        let column = &self.columns[slot];
+        let nested = (1..self.schemas.len()).find(|index| self.schemas[*index].chapter == slot);
+        Description {
+            code: column.code,
+            flags: u8::from(column.nullable),
+            maximum: column.maximum,
+            child_id: nested.map_or(0, |index| self.schemas[index].id),
+            nested: nested.unwrap_or(0),
+        }
+    }
+
     /// Takes a whole file from the source and checks that nothing follows it.
     fn take(source: &mut impl Source) -> Result<SchemaFile, Error> {
         let mut file = SchemaFile {
             columns: Vec::with_capacity(MAX_COLUMNS),
             schemas: Vec::new(),
         };
-        file.take_schema(source, 1, 0)?;
+        file.take_schema(source, 1, 0, 0)?;
         if !source.is_at_end() {
             return Err(source.error(ErrorCode::Trailing, source.at()));
         }
         Ok(file)
     }
 
-    /// Takes one schema: its count, then its columns.
+    /// Takes one schema, of this child id and nested in this slot: its count, then its columns.
     fn take_schema(
         &mut self,
         source: &mut impl Source,
         depth: usize,
         id: u32,
+        chapter: usize,
     ) -> Result<(), Error> {
         let at = source.at();
         if depth > MAX_DEPTH {
@@ -148,7 +232,12 @@ impl SchemaFile {
             return Err(source.error(ErrorCode::SchemaLimit, at));
         }
         self.columns.resize(first + count, Column::NONE);
-        self.schemas.push(Schema { first, count, id });
+        self.schemas.push(Schema {
+            first,
+            count,
+            id,
+            chapter,
+        });
         for slot in first..first + count {
             self.take_column(source, depth, slot)?;
         }
@@ -185,7 +274,7 @@ impl SchemaFile {
             if self.index_of_id(id).is_some() {
                 return Err(source.error(ErrorCode::RepeatedId, at));
             }
-            self.take_schema(source, depth + 1, id)?;
+            self.take_schema(source, depth + 1, id, slot)?;
         }
         Ok(())
     }
@@ -368,6 +457,62 @@ mod tests {
         assert_eq!(read_schema(&bytes), error(ErrorCode::SchemaLimit, 20));
         bytes[19] = 1;
         assert_eq!(read_schema(&bytes), error(ErrorCode::RepeatedId, 19));
+    }
+
+    #[test]
+    fn columns_are_described() {
+        // The schema T of the rules, then a wide text after its chapter.
+        let bytes = [
+            0x03, 0x03, 0x00, 0x88, 0x01, 0x01, 0x07, 0x01, 0x11, 0x00, 0x82, 0x01, 0x00, 0x0A,
+        ];
+        let described = |number, column| {
+            let of_column = schema_column(&bytes, number, column).unwrap();
+            let Description {
+                code,
+                flags,
+                maximum,
+                child_id,
+                nested,
+            } = of_column;
+            (code, flags, maximum, child_id, nested)
+        };
+        assert_eq!(described(0, 0), (0x03, 0, 0, 0, 0));
+        assert_eq!(described(0, 1), (0x88, 1, 0, 7, 1));
+        assert_eq!(described(0, 2), (0x82, 0, 10, 0, 0));
+        assert_eq!(described(1, 0), (0x11, 0, 0, 0, 0));
+        assert_eq!(schema_columns(&bytes, 0), Ok(3));
+        assert_eq!(schema_columns(&bytes, 1), Ok(1));
+        assert_eq!(schema_of_child(&bytes, 7), Ok(1));
+    }
+
+    #[test]
+    fn the_file_is_looked_at_before_numbers_and_ids() {
+        let sound = [0x01, 0x11, 0x00];
+        let none = |input| Error::new(ErrorCode::NoSuch, 0, input);
+        let number = none(Input::SchemaNumber);
+        assert_eq!(schema_columns(&sound, 1 << 32), Err(number));
+        assert_eq!(schema_column(&sound, 1, 9), Err(number));
+        assert_eq!(schema_column(&sound, 0, 1), Err(none(Input::Column)));
+        // The top schema has no id, not even 0.
+        assert_eq!(schema_of_child(&sound, 0), Err(none(Input::ChildId)));
+        let bad = Error::new(ErrorCode::NumberForm, 0, Input::Schema);
+        assert_eq!(schema_columns(&[0x83, 0x00], 9), Err(bad));
+        assert_eq!(schema_column(&[0x83, 0x00], 9, 9), Err(bad));
+        assert_eq!(schema_of_child(&[0x83, 0x00], 9), Err(bad));
+    }
+
+    #[test]
+    fn numbers_are_handed_out_if_all_fit() {
+        let bytes = [0x01, 0x82, 0x01, 0x01, 0x0A];
+        let mut table = [7; 5];
+        assert_eq!(schema_numbers(&bytes, &mut table), Ok(4));
+        assert_eq!(table, [1, 0x82, 1, 10, 7]);
+        let mut table = [7; 3];
+        let capacity = Error::new(ErrorCode::Capacity, 4, Input::Table);
+        assert_eq!(schema_numbers(&bytes, &mut table), Err(capacity));
+        assert_eq!(table, [7; 3]);
+        let bad = Error::new(ErrorCode::NumberRange, 0, Input::Schema);
+        assert_eq!(schema_numbers(&[0x00], &mut []), Err(bad));
     }
 
     #[test]

@@ -3,6 +3,7 @@
 
 mod header;
 mod options;
+mod schema;
 
 use std::time::{Duration, Instant};
 
@@ -24,16 +25,29 @@ const PRINTED: u64 = 20;
 /// How many cases run between two looks at the clock.
 const BETWEEN_LOOKS: u64 = 64;
 
-/// One case of one call: makes the inputs, runs both sides, reports to the run.
+/// Some cases of one call: makes the inputs, runs both sides, reports to the run.
 type Trial = fn(&mut Random, &mut Run);
 
-const TRIALS: [Trial; 5] = [
+/// Trials of one case each.
+const SHORT: [Trial; 8] = [
     header::read_case,
     header::write_case,
     header::write_short_case,
     options::read_case,
     options::write_case,
+    schema::read_case,
+    schema::write_case,
+    schema::numbers_case,
 ];
+
+/// Trials that ask one file for all that it holds. They take their turn once in `BETWEEN_LONG`,
+/// so that the time is not all theirs.
+const LONG: [Trial; 3] = [
+    schema::columns_case,
+    schema::column_case,
+    schema::child_case,
+];
+const BETWEEN_LONG: usize = 32;
 
 /// A call under trial, with the error codes that it can answer.
 pub(crate) struct Call {
@@ -64,7 +78,7 @@ pub fn run(seed: u64, limit: Limit) -> Totals {
     run_oversized(&mut run);
     let mut turn = 0;
     while !limit.reached(turn, run.totals.cases, started) {
-        let trial = TRIALS[random.below(TRIALS.len())];
+        let trial = any_trial(&mut random);
         trial(&mut random, &mut run);
         turn += 1;
     }
@@ -75,11 +89,20 @@ pub fn run(seed: u64, limit: Limit) -> Totals {
     run.totals
 }
 
+fn any_trial(random: &mut Random) -> Trial {
+    if random.one_in(BETWEEN_LONG) {
+        random.pick(&LONG)
+    } else {
+        random.pick(&SHORT)
+    }
+}
+
 /// Inputs at the size limit and over it, once each.
 fn run_oversized(run: &mut Run) {
     let mut bytes = vec![0; MAX_INPUT + 1];
     header::oversized(&mut bytes, run);
     options::oversized(&mut bytes, run);
+    schema::oversized(&mut bytes, run);
 }
 
 impl Limit {
@@ -206,6 +229,17 @@ fn output_complaints<T>(
     theirs: &[u8],
     written: &Result<usize, T>,
 ) -> Vec<String> {
+    filled_complaints(before, ours, theirs, written, shown)
+}
+
+/// Complaints about what two sides filled from its start, which both began as `before`.
+fn filled_complaints<N: PartialEq, T>(
+    before: &[N],
+    ours: &[N],
+    theirs: &[N],
+    written: &Result<usize, T>,
+    shown: fn(&[N]) -> String,
+) -> Vec<String> {
     let mut complaints = Vec::new();
     if ours != theirs {
         complaints.push(format!("output of the reading: {}", shown(ours)));
@@ -214,7 +248,7 @@ fn output_complaints<T>(
     let kept_from = *written.as_ref().unwrap_or(&0);
     for (side, output) in [("reading", ours), ("archive", theirs)] {
         if output.get(kept_from..) != before.get(kept_from..) {
-            complaints.push(format!("the {side} changed bytes outside the piece"));
+            complaints.push(format!("the {side} changed what lies outside the piece"));
         }
     }
     complaints

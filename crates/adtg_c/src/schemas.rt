@@ -1,6 +1,11 @@
 // The schema file: how much it has, its schemas and columns.
+ghost use lib.ListN.{length};
+ghost use mathlib.Core.Path.{_≡_};
+ghost use Rattle.wire.specs.Output.{sizeOf, outputAfter};
+ghost use Rattle.schema.specs.Writer.{fileWritten, numbersListed, toldListed};
 ghost use Rattle.schema.specs.Questions.{countsOf, columnCountOf, columnOf, childOf, toldSize};
 ghost use Rattle.adtg_c.specs.Answers.{Answered, sizeValues, countsValues, columnValues};
+use crate::answer::answer_written;
 use crate::answer::refuse;
 use schema::file::ColumnRead;
 use schema::file::CountsRead;
@@ -9,6 +14,9 @@ use schema::file::child_schema;
 use schema::file::column_at;
 use schema::file::column_count;
 use schema::file::count_file;
+use schema::listing::Listed;
+use schema::listing::list_numbers;
+use schema::writer::write_file;
 
 // How many schemas and columns a schema file has.
 #[no_mangle]
@@ -107,6 +115,37 @@ pub extern "C" fn adtg_schema_column(
                 0,
                 0,
             ];
+            0
+        }
+    }
+}
+
+// Writes a schema file with these numbers at the start of `dst`: bytes written.
+#[no_mangle]
+pub extern "C" fn adtg_write_schema(numbers: &[u32], dst: &mut [u8], out: &mut [u64; 16]) -> u32
+    ensures answers { λ r. ⌜ Answered sizeValues (sizeOf (fileWritten (now (numbers .entry)) (length (now (dst .entry))))) r (now (out .exit)) ⌝ }
+    ensures leaves { λ r. ⌜ now (dst .exit) ≡ outputAfter (fileWritten (now (numbers .entry)) (length (now (dst .entry)))) (now (dst .entry)) ⌝ }
+{
+    answer_written(write_file(numbers, dst), out)
+}
+
+// Lists the numbers of a schema file at the start of `table`: how many.
+#[no_mangle]
+pub extern "C" fn adtg_schema_numbers(file: &[u8], table: &mut [u32], out: &mut [u64; 16]) -> u32
+    ensures answers { λ r. ⌜ Answered sizeValues (sizeOf (numbersListed (now (file .entry)) (length (now (table .entry))))) r (now (out .exit)) ⌝ }
+    ensures leaves { λ r. ⌜ now (table .exit) ≡ outputAfter (numbersListed (now (file .entry)) (length (now (table .entry)))) (now (table .entry)) ⌝ }
+{
+    answer_listed(list_numbers(file, table), out)
+}
+
+// The answer of a call that lists numbers.
+fn answer_listed(listed: Listed, out: &mut [u64; 16]) -> u32
+    ensures { λ r. ⌜ Answered sizeValues (toldListed listed) r (now (out .exit)) ⌝ }
+{
+    match listed {
+        Listed::Refused(e) => refuse(e, out),
+        Listed::Numbers(n) => {
+            *out = [n as u64, 0, 0, 0, 0, 0, 0, 0, 0, 0, 0, 0, 0, 0, 0, 0];
             0
         }
     }

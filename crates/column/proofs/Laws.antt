@@ -16,6 +16,7 @@ use Rattle.wire.specs.Errors.{codeOf}
 use Rattle.wire.specs.Read.{Bytes, Read, ok, bad, pick, cut}
 use Rattle.wire.specs.Integers.{valueOf, intAt, readInt}
 use Rattle.wire.proofs.Laws.{whole-fits, whole-short, int-fits, int-short}
+use Rattle.wire.proofs.Pieces.{bad-ok}
 use Rattle.column.specs.declared.column.Column.{Column}
 use Rattle.column.specs.declared.field.Field.{Field}
 use Rattle.column.specs.declared.types.Kind.{Kind}
@@ -24,9 +25,6 @@ use Rattle.column.specs.Columns.{kind, width, isVariable, prefixSize, pr
 use Rattle.column.specs.Fields.{field, allowed, bytesAt, variableAt, fieldAt}
 
 -- Answers and errors.
-
-bad-ok : {A : Type 0} {k o : ℕ} {i : Input} {a : A} → bad k o i ≡ ok a → ⊥
-bad-ok h = let z : _≡_ {A = ℕ} 0 1 = cc in omega arith
 
 -- no error has the number 0
 pub code-positive : (k : ErrorKind) → 0 < codeOf k

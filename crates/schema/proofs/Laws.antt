@@ -166,3 +166,13 @@ module _ (k : ℕ) (table : List ℕ) where
     column-at c l =
         let slot : ℕ = getD table (schemaSlot j) 0 in
         rw (schema-at, entries-length (startIn slot) (countIn slot) table, lt-ltb c (countIn slot) l, entries-at (startIn slot) (countIn slot) table c l)
+
+-- The size of a file.
+
+pub file-over : (b : Bytes) → limit < length b → fileOf b ≡ bad 19 0 Single
+unfolding fileOf
+file-over b h = rw (sized-over b h)
+
+pub file-within : (b : Bytes) → length b ≤ limit → fileOf b ≡ readFile b
+unfolding fileOf
+file-within b h = rw (sized-within b h)

@@ -17,3 +17,8 @@ pub mod Heads
 pub mod Reading
 pub mod Questions
 pub mod Layouts
+pub mod Coding
+pub mod Prefix
+pub mod Writing
+pub mod Listed
+pub mod Trips

@@ -7,3 +7,4 @@ pub mod Filling
 pub mod Heads
 pub mod Told
 pub mod Questions
+pub mod Writer

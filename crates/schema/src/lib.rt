@@ -3,5 +3,7 @@
 
 pub mod file;
 pub mod head;
+pub mod listing;
 pub mod number;
 pub mod reader;
+pub mod writer;
