@@ -158,6 +158,47 @@ pub schema-deep : (b : Bytes) (id : ℕ) (f : Filled) → fillSchema 0 b id f �
 unfolding fillSchema
 schema-deep b id f = refl
 
+-- A schema as the code reads it: where depth d is left below it, its count n ends at p, and the block v stands in the table.
+module _
+    (b : Bytes) (depth id : ℕ) (f : Filled) (n p v : ℕ) (deep : depth ≡ 0 → ⊥) (h : rangeAt 1 mostColumns b (f .at) ≡ ok (found n p))
+    (l : f .columns + n ≤ mostFileColumns) (e : v ≡ block (f .columns) n id)
+  where
+    -- the place and the table where its columns start
+    abbrev pub begun : Filled
+    begun = filled p (f .columns + n) (f .schemas + 1) (set (f .table) (schemaSlot (f .schemas)) v)
+
+    begins : fillSchema depth b id f ≡ fillColumns (fillSchema (depth - 1) b) b n (f .columns) begun
+    begins =
+        let z : depth ≡ suc (depth - 1) = omega arith in
+        ap (λ (d : ℕ). fillSchema d b id f) z
+        ∙ schema-columns (depth - 1) b id f n p h l
+        ∙ ap (λ (x : ℕ). fillColumns (fillSchema (depth - 1) b) b n (f .columns) (filled p (f .columns + n) (f .schemas + 1) (set (f .table) (schemaSlot (f .schemas)) x))) (sym e)
+
+    -- the columns from the i-th on are what is left of it
+    module _ (i : ℕ) (g : Filled)
+        (k : fillColumns (fillSchema (depth - 1) b) b n (f .columns) begun ≡ fillColumns (fillSchema (depth - 1) b) b (n - i) (f .columns + i) g)
+      where
+        pub loop-ends : n ≤ i → fillSchema depth b id f ≡ ok g
+        loop-ends m =
+            let z : n - i ≡ 0 = omega arith in
+            begins ∙ k ∙ columns-end (fillSchema (depth - 1) b) b (f .columns + i) g (n - i) z
+
+        module _ (m : i < n) where
+          less : n - i ≡ suc (n - (i + 1))
+          less = omega arith
+
+          pub loop-refused : (x : Error) → fillColumn (fillSchema (depth - 1) b) b (f .columns + i) g ≡ refused x → fillSchema depth b id f ≡ refused x
+          loop-refused x c = begins ∙ k ∙ columns-refused (fillSchema (depth - 1) b) b (f .columns + i) g (n - i) (n - (i + 1)) x less c
+
+          pub loop-next :
+              (j : Filled) → fillColumn (fillSchema (depth - 1) b) b (f .columns + i) g ≡ ok j →
+              fillColumns (fillSchema (depth - 1) b) b n (f .columns) begun ≡ fillColumns (fillSchema (depth - 1) b) b (n - (i + 1)) (f .columns + (i + 1)) j
+          loop-next j c =
+              let y : f .columns + i + 1 ≡ f .columns + (i + 1) = omega arith in
+              k
+              ∙ columns-next (fillSchema (depth - 1) b) b (f .columns + i) g (n - i) (n - (i + 1)) j less c
+              ∙ ap (λ (s : ℕ). fillColumns (fillSchema (depth - 1) b) b (n - (i + 1)) s j) y
+
 -- what moves on from a later place moves on from an earlier one
 pub moves-from :
     (b : Bytes) (p q : Place) (r : PlaceRead) → p .at ≤ q .at → p .columns ≤ q .columns → p .schemas ≤ q .schemas → Moves b q r → Moves b p r

@@ -14,7 +14,7 @@ use Rattle.schema.specs.Heads.{Head, fieldHead, idHead, headAt, toldNumb
 use Rattle.schema.specs.declared.reader.PlaceRead.{PlaceRead}
 use Rattle.schema.specs.Told.{placed, Ready, Onward, Told, toldPlace}
 use Rattle.schema.proofs.Heads.{head-inside, head-small, range-inside}
-use Rattle.schema.proofs.Reading.{column-refused, column-filled, chapter-seen, chapter-new, moves-from, columns-next, columns-refused, columns-end, schema-deep, schema-refused, schema-over, schema-columns}
+use Rattle.schema.proofs.Reading.{column-refused, column-filled, chapter-seen, chapter-new, moves-from, schema-deep, schema-refused, schema-over, loop-next, loop-refused, loop-ends}
 use borrow.Author.Needs.{needs}
 use native.Mathlib.Omega.{arith}
 use borrow.Fn.Kinds.{In}
@@ -314,21 +314,10 @@ read-schema-returns-3 : (t : ℕ) → read-schema-lts.Need-returns-3 (
 ) (read-schema-at t) read-schema.Post read-schema-Inv-loop read-schema-μ-loop
 read-schema-returns-3 t c =
     let a = c .before .before .before .before .before .before .before .before .before .before .before .before .before .before .before .args in
-    let b : Bytes = a .file .now in
     let l = c .before .before .before .before .before .before .loop in
-    let n : ℕ = c .before .before .before .before .before .before .before .before .before .before .count .given .0 .0 in
-    let end : ℕ = c .before .before .before .before .before .before .before .before .before .before .count .given .0 .1 .0 in
-    let f : Filled = placed (a .place) (a .table .now) in
-    let z : a .depth ≡ suc (a .depth - 1) = omega (arith, c .before .before .before .before .before .before .before .before .before .before .before .before .before .if1 .left) in
-    let x : n - l .i ≡ suc (n - (l .i + 1)) = omega (arith, c .before .before .before .before .before .loop-test .taken) in
-    let e : fillColumn (fillSchema (a .depth - 1) b) b (a .place .columns + l .i) (placed (l .here) (l .table)) ≡ refused (c .before .e2 .given .0 .0) =
-    sym (c .before .before .before .read-column .ensures .answers) ∙ ap (λ (r : PlaceRead). toldPlace r (c .before .before .before .read-column .last .1 .1 .1 .1 .0)) (c .before .e2 .given .1) in
     record {
-      answers = sym (ap (λ (d : ℕ). fillSchema d b (a .id) f) z
-          ∙ schema-columns (a .depth - 1) b (a .id) f n end (sym (c .before .before .before .before .before .before .before .before .before .before .before .before .range-at .ensures) ∙ ap toldNumber (c .before .before .before .before .before .before .before .before .before .before .count .given .1)) (c .before .before .before .before .before .before .before .before .if2 .left)
-          ∙ ap (λ (v : ℕ). fillColumns (fillSchema (a .depth - 1) b) b n (a .place .columns) (filled end (a .place .columns + n) (a .place .schemas + 1) (set (a .table .now) (schemaSlot (a .place .schemas)) v))) (sym (c .before .before .before .before .before .before .before .block .ensures))
-          ∙ l .inv .6
-          ∙ columns-refused (fillSchema (a .depth - 1) b) b (a .place .columns + l .i) (placed (l .here) (l .table)) (n - l .i) (n - (l .i + 1)) (c .before .e2 .given .0 .0) x e);
+      answers = sym (loop-refused (a .file .now) (a .depth) (a .id) (placed (a .place) (a .table .now)) (c .before .before .before .before .before .before .before .before .before .before .count .given .0 .0) (c .before .before .before .before .before .before .before .before .before .before .count .given .0 .1 .0) (c .before .before .before .before .before .before .before .block .result) (c .before .before .before .before .before .before .before .before .before .before .before .before .before .if1 .left) (sym (c .before .before .before .before .before .before .before .before .before .before .before .before .range-at .ensures) ∙ ap toldNumber (c .before .before .before .before .before .before .before .before .before .before .count .given .1)) (c .before .before .before .before .before .before .before .before .if2 .left) (c .before .before .before .before .before .before .before .block .ensures) (l .i) (placed (l .here) (l .table)) (l .inv .6) (c .before .before .before .before .before .loop-test .taken) (c .before .e2 .given .0 .0)
+          (sym (c .before .before .before .read-column .ensures .answers) ∙ ap (λ (r : PlaceRead). toldPlace r (c .before .before .before .read-column .last .1 .1 .1 .1 .0)) (c .before .e2 .given .1)));
       moves = tt;
     }
 
@@ -342,24 +331,17 @@ read-schema-loop-again : (t : ℕ) → read-schema-lts.Need-loop-again (
 ) (read-schema-at t) read-schema.Post read-schema-Inv-loop read-schema-μ-loop
 read-schema-loop-again t c =
     let a = c .before .before .before .before .before .before .before .before .before .before .before .before .before .before .before .args in
-    let b : Bytes = a .file .now in
     let l = c .before .before .before .before .before .before .loop in
-    let n : ℕ = c .before .before .before .before .before .before .before .before .before .before .count .given .0 .0 in
     let exit : List ℕ = c .before .before .before .read-column .last .1 .1 .1 .1 .0 in
-    let m : Onward b (l .here) (c .before .next .given .0 .0) = rw (c .before .next .given .1) at (c .before .before .before .read-column .ensures .moves) in
-    let e : fillColumn (fillSchema (a .depth - 1) b) b (a .place .columns + l .i) (placed (l .here) (l .table)) ≡ ok (placed (c .before .next .given .0 .0) exit) =
-    sym (c .before .before .before .read-column .ensures .answers) ∙ ap (λ (r : PlaceRead). toldPlace r exit) (c .before .next .given .1) in
-    let x : n - l .i ≡ suc (n - (l .i + 1)) = omega (arith, c .before .before .before .before .before .loop-test .taken) in
-    let y : a .place .columns + l .i + 1 ≡ a .place .columns + (l .i + 1) = omega arith in (
+    let m : Onward (a .file .now) (l .here) (c .before .next .given .0 .0) = rw (c .before .next .given .1) at (c .before .before .before .read-column .ensures .moves) in (
       omega (arith, c .before .before .before .before .before .loop-test .taken),
       l .inv .1,
       omega (arith, l .inv .2, m .columns),
       omega (arith, l .inv .3, m .further),
       m .ready,
       omega (arith, l .inv .5, m .schemas),
-      l .inv .6
-          ∙ columns-next (fillSchema (a .depth - 1) b) b (a .place .columns + l .i) (placed (l .here) (l .table)) (n - l .i) (n - (l .i + 1)) (placed (c .before .next .given .0 .0) exit) x e
-          ∙ ap (λ (s : ℕ). fillColumns (fillSchema (a .depth - 1) b) b (n - (l .i + 1)) s (placed (c .before .next .given .0 .0) exit)) y,
+      loop-next (a .file .now) (a .depth) (a .id) (placed (a .place) (a .table .now)) (c .before .before .before .before .before .before .before .before .before .before .count .given .0 .0) (c .before .before .before .before .before .before .before .before .before .before .count .given .0 .1 .0) (c .before .before .before .before .before .before .before .block .result) (c .before .before .before .before .before .before .before .before .before .before .before .before .before .if1 .left) (sym (c .before .before .before .before .before .before .before .before .before .before .before .before .range-at .ensures) ∙ ap toldNumber (c .before .before .before .before .before .before .before .before .before .before .count .given .1)) (c .before .before .before .before .before .before .before .before .if2 .left) (c .before .before .before .before .before .before .before .block .ensures) (l .i) (placed (l .here) (l .table)) (l .inv .6) (c .before .before .before .before .before .loop-test .taken) (placed (c .before .next .given .0 .0) exit)
+          (sym (c .before .before .before .read-column .ensures .answers) ∙ ap (λ (r : PlaceRead). toldPlace r exit) (c .before .next .given .1)),
     )
 
 read-schema-returns-4 : (t : ℕ) → read-schema-lts.Need-returns-4 (
@@ -389,19 +371,9 @@ read-schema-returns-5 : (t : ℕ) → read-schema-lts.Need-returns-5 (
 ) (read-schema-at t) read-schema.Post read-schema-Inv-loop read-schema-μ-loop
 read-schema-returns-5 t c =
     let a = c .before .before .before .before .before .before .before .before .before .before .args in
-    let b : Bytes = a .file .now in
     let l = c .before .loop in
-    let n : ℕ = c .before .before .before .before .before .count .given .0 .0 in
-    let end : ℕ = c .before .before .before .before .before .count .given .0 .1 .0 in
-    let f : Filled = placed (a .place) (a .table .now) in
-    let z : a .depth ≡ suc (a .depth - 1) = omega (arith, c .before .before .before .before .before .before .before .before .if1 .left) in
-    let x : n - l .i ≡ 0 = omega (arith, c .loop-test .left) in
     record {
-      answers = sym (ap (λ (d : ℕ). fillSchema d b (a .id) f) z
-          ∙ schema-columns (a .depth - 1) b (a .id) f n end (sym (c .before .before .before .before .before .before .before .range-at .ensures) ∙ ap toldNumber (c .before .before .before .before .before .count .given .1)) (c .before .before .before .if2 .left)
-          ∙ ap (λ (v : ℕ). fillColumns (fillSchema (a .depth - 1) b) b n (a .place .columns) (filled end (a .place .columns + n) (a .place .schemas + 1) (set (a .table .now) (schemaSlot (a .place .schemas)) v))) (sym (c .before .before .block .ensures))
-          ∙ l .inv .6
-          ∙ columns-end (fillSchema (a .depth - 1) b) b (a .place .columns + l .i) (placed (l .here) (l .table)) (n - l .i) x);
+      answers = sym (loop-ends (a .file .now) (a .depth) (a .id) (placed (a .place) (a .table .now)) (c .before .before .before .before .before .count .given .0 .0) (c .before .before .before .before .before .count .given .0 .1 .0) (c .before .before .block .result) (c .before .before .before .before .before .before .before .before .if1 .left) (sym (c .before .before .before .before .before .before .before .range-at .ensures) ∙ ap toldNumber (c .before .before .before .before .before .count .given .1)) (c .before .before .before .if2 .left) (c .before .before .block .ensures) (l .i) (placed (l .here) (l .table)) (l .inv .6) (c .loop-test .left));
       moves = record { ready = l .inv .4; further = omega (arith, l .inv .3); columns = omega (arith, l .inv .2); schemas = omega (arith, l .inv .5) };
     }
 
