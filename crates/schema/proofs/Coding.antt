@@ -59,6 +59,9 @@ one-byte a h (suc i) = omega arith
 two-bytes : (a b : ℕ) → a < 256 → b < 256 → AreBytes (a ∷ (b ∷ []))
 two-bytes a b h k = bytes-append (a ∷ []) (b ∷ []) (one-byte a h) (one-byte b k)
 
+three-bytes : (a b c : ℕ) → a < 256 → b < 256 → c < 256 → AreBytes (a ∷ (b ∷ (c ∷ [])))
+three-bytes a b c h k l = bytes-append (a ∷ []) (b ∷ (c ∷ [])) (one-byte a h) (two-bytes b c k l)
+
 pub coded-bytewise : (n : ℕ) → Bytewise (codedNumber n)
 coded-bytewise n = by (ltb n 0x80) (ltb n 0x4000) (ltb n numberLimit) refl refl refl
   where
@@ -68,17 +71,18 @@ coded-bytewise n = by (ltb n 0x80) (ltb n 0x4000) (ltb n numberLimit) refl refl 
         rw (coded-one n h) (record { some = omega arith; short = omega arith; bytes = one-byte n (omega arith) })
     by false true v e f g =
         let h : n < 0x4000 = ltb-true _ _ f in
-        rw (coded-two n (ltb-false _ _ e) h) (record { some = omega arith; short = omega arith; bytes = two-bytes (n % 0x80 + 0x80) (n / 0x80) (omega arith) (omega arith) })
+        rw (coded-two n (ltb-false _ _ e) h)
+        (record { some = omega arith; short = omega arith; bytes = two-bytes (n % 0x80 + 0x80) (n / 0x80) (omega arith) (omega arith) })
     by false false true e f g =
         let h : n < numberLimit = ltb-true _ _ g in
         let a : ℕ = n % 0x80 + 0x80 in
         let b : ℕ = n / 0x80 % 0x80 + 0x80 in
         let c : ℕ = n / 0x4000 in
         rw (coded-three n (ltb-false _ _ f) h)
-        (record { some = omega arith; short = omega arith; bytes = bytes-append (a ∷ []) (b ∷ (c ∷ [])) (one-byte a (omega arith)) (two-bytes b c (omega arith) (omega arith)) })
+        (record { some = omega arith; short = omega arith; bytes = three-bytes a b c (omega arith) (omega arith) (omega arith) })
     by false false false e f g =
         rw (coded-none n (ltb-false _ _ g))
-        (record { some = omega arith; short = omega arith; bytes = bytes-append (0x80 ∷ []) (0x80 ∷ (0x80 ∷ [])) (one-byte 0x80 (omega arith)) (two-bytes 0x80 0x80 (omega arith) (omega arith)) })
+        (record { some = omega arith; short = omega arith; bytes = three-bytes 0x80 0x80 0x80 (omega arith) (omega arith) (omega arith) })
 
 -- What the reader says where no number stands: three bytes that are none, and no bytes at all.
 

@@ -22,3 +22,5 @@ pub mod Prefix
 pub mod Writing
 pub mod Listed
 pub mod Trips
+pub mod Forms
+pub mod WriterExamples

@@ -42,7 +42,8 @@ module _ (y : Bytes) where
   number-either true h k = h
   number-either false h k = k
 
-  number-test : {n : ℕ} (t : Bool) (c p : ℕ) {r r′ : Read Number} → SameNumber n r r′ → SameNumber n (check t c p >>= λ _. r) (check t c p >>= λ _. r′)
+  number-test :
+      {n : ℕ} (t : Bool) (c p : ℕ) {r r′ : Read Number} → SameNumber n r r′ → SameNumber n (check t c p >>= λ _. r) (check t c p >>= λ _. r′)
   unfolding check
   number-test true c p h = h
   number-test false c p h = number-error
@@ -70,7 +71,9 @@ module _ (y : Bytes) where
   and-then error k = error
   and-then (answer {a} {s} t h) k = k (got a s) t h
 
-  test : {A : Type 0} {w : ℕ} (t : Bool) (c p : ℕ) {r r′ : Read (Got A)} → (t ≡ true → Same w r r′) → Same w (check t c p >>= λ _. r) (check t c p >>= λ _. r′)
+  test :
+      {A : Type 0} {w : ℕ} (t : Bool) (c p : ℕ) {r r′ : Read (Got A)} → (t ≡ true → Same w r r′) →
+      Same w (check t c p >>= λ _. r) (check t c p >>= λ _. r′)
   unfolding check
   test true c p h = h refl
   test false c p h = error
@@ -102,17 +105,23 @@ module _ (y : Bytes) where
       (s : State) (w : ℕ) → s .total ≤ mostFileColumns → w + 3 ≤ weight s → enough ≤ weight s → Same w (nest s) (nest (more s))
 
   module _ (nest : State → Read (Got Tree)) (nests : Nests nest) where
-    fixed-same : (code : ℕ) (s : State) (w : ℕ) → s .total ≤ mostFileColumns → w + 9 ≤ weight s → enough + 6 ≤ weight s → Same w (readFixed code s) (readFixed code (more s))
+    fixed-same :
+        (code : ℕ) (s : State) (w : ℕ) → s .total ≤ mostFileColumns → w + 9 ≤ weight s → enough + 6 ≤ weight s →
+        Same w (readFixed code s) (readFixed code (more s))
     unfolding readFixed
     fixed-same code s w t h k = and-then (range-same 0 mostFlags s w t (omega arith) (omega arith)) (λ a u l. answer u l)
 
-    variable-same : (code : ℕ) (s : State) (w : ℕ) → s .total ≤ mostFileColumns → w + 9 ≤ weight s → enough + 6 ≤ weight s → Same w (readVariable code s) (readVariable code (more s))
+    variable-same :
+        (code : ℕ) (s : State) (w : ℕ) → s .total ≤ mostFileColumns → w + 9 ≤ weight s → enough + 6 ≤ weight s →
+        Same w (readVariable code s) (readVariable code (more s))
     unfolding readVariable
     variable-same code s w t h k =
         and-then (range-same 0 mostFlags s (weight s - 3) t (omega arith) (omega arith))
         (λ a u l. and-then (range-same 1 mostMaximum (a .next) w u (omega arith) (omega arith)) (λ b x m. answer x m))
 
-    chapter-same : (s : State) (w : ℕ) → s .total ≤ mostFileColumns → w + 9 ≤ weight s → enough + 6 ≤ weight s → Same w (readChapter nest s) (readChapter nest (more s))
+    chapter-same :
+        (s : State) (w : ℕ) → s .total ≤ mostFileColumns → w + 9 ≤ weight s → enough + 6 ≤ weight s →
+        Same w (readChapter nest s) (readChapter nest (more s))
     unfolding readChapter
     chapter-same s w t h k =
         and-then (range-same 0 mostFlags s (weight s - 3) t (omega arith) (omega arith))
@@ -178,7 +187,8 @@ unfolding ended
 ended-refused [] at a b h e = omega arith
 ended-refused (c ∷ l) at a b h e = bad-ok e
 
-file-refused : {r r′ : Read (Got Tree)} (t : Tree) → Same [] 3073 r r′ → (r >>= λ t. ended (t .next .left) (t .next .at) >>= λ _. ok (t .value)) ≡ ok t → ⊥
+file-refused :
+    {r r′ : Read (Got Tree)} (t : Tree) → Same [] 3073 r r′ → (r >>= λ t. ended (t .next .left) (t .next .at) >>= λ _. ok (t .value)) ≡ ok t → ⊥
 file-refused t error e = bad-ok e
 file-refused t (answer {a} {s} u h) e = ended-refused (s .left) (s .at) a t (omega arith) e
 
