@@ -1,0 +1,14 @@
+pub mod Laws
+pub mod Arrays
+pub mod Found
+pub mod Errors
+pub mod Counting
+pub mod Later
+pub mod UpdateLaws
+pub mod UpdateFound
+pub mod UpdateLater
+pub mod Current
+pub mod Shift
+pub mod Reserved
+pub mod BitCounts
+pub mod Examples

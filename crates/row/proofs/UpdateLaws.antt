@@ -1,0 +1,274 @@
+-- Laws of update data and of the current value, for the functions' proofs and the layers above.
+-- Assumes nothing.
+use Prim.Native.Nat.{ℕ, zero, suc, _+_, _*_, _/_, _≤_, _<_}
+use mathlib.Core.List.{List, [], _∷_}
+use mathlib.Core.Bool.{Bool, true, false}
+use mathlib.Core.Path.{_≡_, refl, ap, _∙_}
+use native.Mathlib.Omega.{arith}
+use lib.ListN.{length, getD, drop}
+use Rattle.wire.specs.declared.error.Input.{Input}
+use Rattle.wire.specs.declared.error.Input.the-variants as input
+use Rattle.wire.specs.Read.{Bytes, Read, ok, bad, pick, about, limit}
+use Rattle.wire.specs.Bits.{bitSet}
+use Rattle.wire.proofs.Laws.{whole-fits, whole-short, sized-over, sized-within}
+use Rattle.column.specs.declared.column.Column.{Column}
+use Rattle.column.specs.declared.field.Field.{Field}
+use Rattle.column.specs.Columns.{isChapter, isNullable}
+use Rattle.column.specs.Fields.{fieldAt}
+use Rattle.row.specs.Presence.{noColumn, Mark, mark, noMark, clear}
+use Rattle.row.specs.Rows.{Place, place, step, arrive, Answer, lookUp}
+use Rattle.row.specs.Updates.{numbered, updateBytes, chapterMarked, forceBroken, carried, carriedIn, updateOpened, updateWalked, updateEnd, field, null, unchanged, chapter, updateField, updateColumn, lookUpdate, updated, forced, original, fromRow, currentBy, current, currentRow}
+use Rattle.row.proofs.Laws.{clear-end, clear-found, clear-next, step-absent, step-field, step-refused, walk-zero, walk-next, walk-ended, known-not, known-well}
+
+-- The mark of a column: its bit is its number.
+
+pub length-numbered : (i : ℕ) (cs : List Column) → length (numbered i cs) ≡ length cs
+unfolding numbered
+length-numbered i [] = refl
+length-numbered i (c ∷ cs) = ap suc (length-numbered (suc i) cs)
+
+numbered-at : (j : ℕ) (cs : List Column) (i : ℕ) → i < length cs → getD (numbered j cs) i noMark ≡ mark (getD cs i noColumn) (j + i)
+unfolding numbered
+numbered-at j [] i h = absurd (omega arith)
+numbered-at j (c ∷ cs) zero h = let z : j ≡ j + 0 = omega arith in ap (mark c) z
+numbered-at j (c ∷ cs) (suc i) h =
+    let z : suc j + i ≡ j + suc i = omega arith in
+    numbered-at (suc j) cs i (omega arith) ∙ ap (mark (getD cs i noColumn)) z
+
+pub number-at : (cs : List Column) (i : ℕ) → i < length cs → getD (numbered 0 cs) i noMark ≡ mark (getD cs i noColumn) i
+number-at cs i h = numbered-at 0 cs i h ∙ (let z : 0 + i ≡ i = omega arith in ap (mark (getD cs i noColumn)) z)
+
+-- The rules of one column.
+
+module _ (map : Bytes) (c : Column) (i : ℕ) where
+  pub marked-chapter : isChapter c ≡ true → chapterMarked map (mark c i) ≡ bitSet map i
+  unfolding chapterMarked
+  marked-chapter e = rw e
+
+  pub marked-none : isChapter c ≡ false → chapterMarked map (mark c i) ≡ false
+  unfolding chapterMarked
+  marked-none e = rw e
+
+module _ (update force : Bytes) (c : Column) (i : ℕ) where
+  pub force-not : bitSet force i ≡ false → forceBroken update force (mark c i) ≡ false
+  unfolding forceBroken
+  force-not f = rw f
+
+  pub force-alone : bitSet force i ≡ true → bitSet update i ≡ false → forceBroken update force (mark c i) ≡ true
+  unfolding forceBroken
+  force-alone f u = rw (f, u)
+
+  pub force-plain : bitSet force i ≡ true → isNullable c ≡ false → forceBroken update force (mark c i) ≡ true
+  unfolding forceBroken
+  force-plain f n = rw (f, n) (go (bitSet update i))
+    where
+      go : (u : Bool) → pick u true true ≡ true
+      go true = refl
+      go false = refl
+
+  pub force-well : bitSet update i ≡ true → isNullable c ≡ true → forceBroken update force (mark c i) ≡ false
+  unfolding forceBroken
+  force-well u n = rw (u, n) (go (bitSet force i))
+    where
+      go : (f : Bool) → pick f false false ≡ false
+      go true = refl
+      go false = refl
+
+  pub carried-not : bitSet update i ≡ false → carried update force (mark c i) ≡ false
+  unfolding carried
+  carried-not u = rw u
+
+  pub carried-forced : bitSet force i ≡ true → carried update force (mark c i) ≡ false
+  unfolding carried
+  carried-forced f = rw f (go (bitSet update i))
+    where
+      go : (u : Bool) → pick u false false ≡ false
+      go true = refl
+      go false = refl
+
+  pub carried-field : bitSet update i ≡ true → bitSet force i ≡ false → carried update force (mark c i) ≡ true
+  unfolding carried
+  carried-field u f = rw (u, f)
+
+pub carried-in : (cs : List Column) (row : Bytes) (at : ℕ) (m : Mark) → carriedIn cs row at m ≡ carried (drop at row) (drop (at + updateBytes cs) row) m
+unfolding carriedIn
+carried-in cs row at m = refl
+
+-- A rule over the columns, checked one by one: those before i keep it.
+
+module _ (cs : List Column) (broken : Mark → Bool) (code at i : ℕ) where
+  pub rule-end : length cs ≤ i → clear broken code at (drop i (numbered 0 cs)) ≡ ok tt
+  rule-end h = clear-end broken code at (numbered 0 cs) i (omega (arith, length-numbered 0 cs))
+
+  module _ (h : i < length cs) where
+    pub rule-found : broken (mark (getD cs i noColumn) i) ≡ true → clear broken code at (drop i (numbered 0 cs)) ≡ bad code (at + i / 8) input.Single
+    rule-found e =
+        clear-found broken code at (numbered 0 cs) i (omega (arith, length-numbered 0 cs)) (ap broken (number-at cs i h) ∙ e)
+        ∙ ap (λ (m : Mark). bad code (at + m .bit / 8) input.Single) (number-at cs i h)
+
+    pub rule-next :
+        broken (mark (getD cs i noColumn) i) ≡ false → clear broken code at (drop i (numbered 0 cs)) ≡ clear broken code at (drop (i + 1) (numbered 0 cs))
+    rule-next e = clear-next broken code at (numbered 0 cs) i (omega (arith, length-numbered 0 cs)) (ap broken (number-at cs i h) ∙ e)
+
+-- Update data open, or not.
+
+module _ (cs : List Column) (row : Bytes) (at : ℕ) where
+  pub update-short : length row < at + 2 * updateBytes cs → updateOpened cs row at ≡ bad 1 (length row) input.Single
+  unfolding updateOpened
+  update-short h = simp (whole-short row at (2 * updateBytes cs) h)
+
+  module _ (h : at + 2 * updateBytes cs ≤ length row) where
+    pub update-chapter :
+        {e o : ℕ} {i : Input} → clear (chapterMarked (drop at row)) 12 at (numbered 0 cs) ≡ bad e o i → updateOpened cs row at ≡ bad e o i
+    unfolding updateOpened
+    update-chapter c = simp (whole-fits row at (2 * updateBytes cs) h, c)
+
+    module _ (u : clear (chapterMarked (drop at row)) 12 at (numbered 0 cs) ≡ ok tt) where
+      pub force-chapter :
+          {e o : ℕ} {i : Input} → clear (chapterMarked (drop (at + updateBytes cs) row)) 12 (at + updateBytes cs) (numbered 0 cs) ≡ bad e o i →
+          updateOpened cs row at ≡ bad e o i
+      unfolding updateOpened
+      force-chapter c = simp (whole-fits row at (2 * updateBytes cs) h, u, c)
+
+      module _ (f : clear (chapterMarked (drop (at + updateBytes cs) row)) 12 (at + updateBytes cs) (numbered 0 cs) ≡ ok tt) where
+        pub force-rule :
+            {e o : ℕ} {i : Input} →
+            clear (forceBroken (drop at row) (drop (at + updateBytes cs) row)) 13 (at + updateBytes cs) (numbered 0 cs) ≡ bad e o i →
+            updateOpened cs row at ≡ bad e o i
+        unfolding updateOpened
+        force-rule c = simp (whole-fits row at (2 * updateBytes cs) h, u, f, c)
+
+        pub update-well :
+            clear (forceBroken (drop at row) (drop (at + updateBytes cs) row)) 13 (at + updateBytes cs) (numbered 0 cs) ≡ ok tt →
+            updateOpened cs row at ≡ ok (at + 2 * updateBytes cs)
+        unfolding updateOpened
+        update-well c = simp (whole-fits row at (2 * updateBytes cs) h, u, f, c)
+
+-- The walk of update data at `at`, one column further.
+
+module _ (cs : List Column) (row : Bytes) (at : ℕ) where
+  pub update-walked-zero : updateWalked cs row at 0 ≡ ok (place (at + 2 * updateBytes cs) 0)
+  unfolding updateWalked
+  update-walked-zero = walk-zero _ _ _ _
+
+  pub update-walked-next :
+      (i : ℕ) {w : Place} → i < length cs → updateWalked cs row at i ≡ ok w →
+      updateWalked cs row at (i + 1) ≡ step (carriedIn cs row at) row (mark (getD cs i noColumn) i) w
+  unfolding updateWalked
+  update-walked-next i {w} h e =
+      walk-next (carriedIn cs row at) row i (numbered 0 cs) _ (omega (arith, length-numbered 0 cs)) e
+      ∙ ap (λ (m : Mark). step (carriedIn cs row at) row m w) (number-at cs i h)
+
+  module _ (i p n : ℕ) (h : i < length cs) (e : updateWalked cs row at i ≡ ok (place p n)) where
+    pub update-walked-absent : carriedIn cs row at (mark (getD cs i noColumn) i) ≡ false → updateWalked cs row at (i + 1) ≡ ok (place p n)
+    update-walked-absent t = update-walked-next i h e ∙ step-absent _ _ _ _ t
+
+    module _ (t : carriedIn cs row at (mark (getD cs i noColumn) i) ≡ true) where
+      pub update-walked-field :
+          (f : Field) → fieldAt (getD cs i noColumn) row p ≡ ok f → updateWalked cs row at (i + 1) ≡ ok (place (f .end) (n + f .prefixes))
+      update-walked-field f g = update-walked-next i h e ∙ step-field _ _ (mark (getD cs i noColumn) i) _ f t g
+
+      pub update-walked-refused :
+          (k : ℕ) {x o : ℕ} {name : Input} → i < k → fieldAt (getD cs i noColumn) row p ≡ bad x o name → updateWalked cs row at k ≡ bad x o name
+      unfolding updateWalked
+      update-walked-refused k l g =
+          walk-ended (carriedIn cs row at) row (i + 1) k (numbered 0 cs) _ (omega arith)
+          (update-walked-next i h e ∙ step-refused _ _ (mark (getD cs i noColumn) i) _ t g)
+
+-- The ways out of the end of update data.
+
+module _ (cs : List Column) (row : Bytes) (at : ℕ) where
+  pub update-end-closed : {e o : ℕ} {i : Input} → updateOpened cs row at ≡ bad e o i → updateEnd cs row at ≡ bad e o i
+  unfolding updateEnd
+  update-end-closed h = simp h
+
+  module _ (s : ℕ) (h : updateOpened cs row at ≡ ok s) where
+    pub update-end-refused : {e o : ℕ} {i : Input} → updateWalked cs row at (length cs) ≡ bad e o i → updateEnd cs row at ≡ bad e o i
+    unfolding updateEnd
+    update-end-refused g = simp (h, g)
+
+    pub update-end-reached : (p n : ℕ) → updateWalked cs row at (length cs) ≡ ok (place p n) → updateEnd cs row at ≡ ok p
+    unfolding updateEnd
+    update-end-reached p n g = simp (h, g)
+
+-- The ways out of a look-up in update data.
+
+module _ (cs : List Column) (update : Bytes) (k : ℕ) where
+  pub look-update-column : length cs ≤ k → lookUpdate cs update k ≡ bad 18 0 input.Column
+  unfolding lookUpdate
+  look-update-column h = simp (known-not cs k h)
+
+  module _ (h : k < length cs) where
+    pub look-update-refused : {e o : ℕ} {i : Input} → updateEnd cs update 0 ≡ bad e o i → lookUpdate cs update k ≡ bad e o input.Update
+    unfolding lookUpdate about
+    look-update-refused g = simp (known-well cs k h, g)
+
+    module _ (s : ℕ) (g : updateEnd cs update 0 ≡ ok s) where
+      look-update-open : lookUpdate cs update k ≡ about input.Update (updateColumn cs update k)
+      unfolding lookUpdate about
+      look-update-open = simp (known-well cs k h, g)
+
+      pub look-update-chapter : isChapter (getD cs k noColumn) ≡ true → lookUpdate cs update k ≡ ok chapter
+      unfolding updateColumn about
+      look-update-chapter c = look-update-open ∙ simp c
+
+      module _ (c : isChapter (getD cs k noColumn) ≡ false) where
+        pub look-update-unchanged : bitSet update k ≡ false → lookUpdate cs update k ≡ ok unchanged
+        unfolding updateColumn about
+        look-update-unchanged u = look-update-open ∙ simp (c, u)
+
+        module _ (u : bitSet update k ≡ true) where
+          pub look-update-null : bitSet (drop (updateBytes cs) update) k ≡ true → lookUpdate cs update k ≡ ok null
+          unfolding updateColumn about
+          look-update-null f = look-update-open ∙ simp (c, u, f)
+
+          pub look-update-found :
+              bitSet (drop (updateBytes cs) update) k ≡ false → (p n : ℕ) → updateWalked cs update 0 k ≡ ok (place p n) → (f : Field) →
+              fieldAt (getD cs k noColumn) update p ≡ ok f →
+              lookUpdate cs update k ≡ ok (field (record { start = f .start; end = f .end; prefixes = n + f .prefixes }))
+          unfolding updateColumn updateField arrive about
+          look-update-found f p n x g y = look-update-open ∙ simp (c, u, f, x, y)
+
+-- The ways out of the current value.
+
+module _ (cs : List Column) (row update : Bytes) (k : ℕ) where
+  pub current-refused : {e o : ℕ} {i : Input} → lookUpdate cs update k ≡ bad e o i → current cs row update k ≡ bad e o i
+  unfolding current
+  current-refused h = simp h
+
+  pub current-updated : (f : Field) → lookUpdate cs update k ≡ ok (field f) → current cs row update k ≡ ok (updated f)
+  unfolding current currentBy
+  current-updated f h = simp h
+
+  pub current-forced : lookUpdate cs update k ≡ ok null → current cs row update k ≡ ok forced
+  unfolding current currentBy
+  current-forced h = simp h
+
+  pub current-unchanged : lookUpdate cs update k ≡ ok unchanged → current cs row update k ≡ fromRow (lookUp cs row k)
+  unfolding current currentBy
+  current-unchanged h = simp h
+
+  pub current-chapter : lookUpdate cs update k ≡ ok chapter → current cs row update k ≡ fromRow (lookUp cs row k)
+  unfolding current currentBy
+  current-chapter h = simp h
+
+  pub current-large-update : limit < length update → currentRow cs row update k ≡ bad 19 0 input.Update
+  unfolding currentRow about
+  current-large-update h = simp (sized-over update h)
+
+  module _ (h : length update ≤ limit) where
+    pub current-large-row : limit < length row → currentRow cs row update k ≡ bad 19 0 input.Row
+    unfolding currentRow about
+    current-large-row g = simp (sized-within update h, sized-over row g)
+
+    pub current-sized : length row ≤ limit → currentRow cs row update k ≡ current cs row update k
+    unfolding currentRow about
+    current-sized g = simp (sized-within update h, sized-within row g)
+
+pub from-row : {r : Read Answer} (a : Answer) → r ≡ ok a → fromRow r ≡ ok (original a)
+unfolding fromRow
+from-row a h = rw h
+
+pub from-row-bad : {r : Read Answer} {e o : ℕ} {i : Input} → r ≡ bad e o i → fromRow r ≡ bad e o i
+unfolding fromRow
+from-row-bad h = rw h

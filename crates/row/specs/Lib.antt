@@ -1,0 +1,5 @@
+pub mod Presence
+pub mod Rows
+pub mod Told
+pub mod Updates
+pub mod Examples

@@ -1,0 +1,4 @@
+// Rows over the columns of one schema: presence, the walk, look-up, the end of a row.
+// It knows columns and not schema files; whoever has a schema file asks it with the schema's columns.
+
+pub mod rows;

@@ -1,0 +1,309 @@
+// Original rows: presence, opening, the walk, look-up by the walk, the end of a row.
+ghost use mathlib.Core.Path.{_≡_};
+ghost use Prim.Native.Nat.{_≤_, _<_, min};
+ghost use Rattle.wire.specs.Read.{ok};
+ghost use Rattle.wire.specs.Integers.{toldInt};
+ghost use Rattle.column.specs.Layout.{columnIn, columnsFrom, columnsIn};
+ghost use Rattle.row.specs.Presence.{one, mark, marks, nullables, present, chapterPresent};
+ghost use Rattle.row.specs.Rows.{opened, place, walk, rowEnd, lookUp, lookUpRow};
+ghost use Rattle.wire.specs.declared.error.Input.the-variants as input;
+ghost use Rattle.row.specs.declared.rows.LookUp.the-variants as look;
+ghost use Rattle.row.specs.Told.{toldWalk, toldLookUp};
+use column::column::Column;
+use column::columns::Columns;
+use column::field::Field;
+use column::field::FieldRead;
+use column::field::field_at;
+use wire::LIMIT;
+use wire::bits::is_set;
+use wire::bits::map_bytes;
+use wire::bytes::lacks;
+use wire::error::Error;
+use wire::error::ErrorKind;
+use wire::error::Input;
+use wire::integer::IntRead;
+
+// Where a walk stands: the position, and the prefixes counted so far.
+pub enum WalkRead {
+    At { position: usize, prefixes: usize },
+    Refused(Error),
+}
+
+// What a look-up answers.
+pub enum LookUp {
+    Found(Field),
+    Null,
+    Chapter,
+    Refused(Error),
+}
+
+// The lesser of two numbers.
+fn lesser(a: usize, b: usize) -> usize
+    ensures { λ r. ⌜ r ≡ min a b ⌝ }
+{
+    if a < b {
+        return a;
+    }
+    b
+}
+
+// Column `i` of a schema's arrays.
+fn column_of<'a>(
+    codes: &'a [u8; 64],
+    flags: &'a [u8; 64],
+    maxima: &'a [u16; 64],
+    i: usize,
+) -> Column
+    requires { ⌜ i < 64 ⌝ }
+    ensures { λ r. ⌜ r ≡ columnIn (now (codes .entry)) (now (flags .entry)) (now (maxima .entry)) i ⌝ }
+{
+    Column {
+        code: codes[i],
+        flags: flags[i],
+        maximum: maxima[i],
+    }
+}
+
+// Whether a column with this bit has a field.
+fn is_present(column: Column, bit: usize, map: &[u8]) -> bool
+    ensures { λ r. ⌜ r ≡ present (now (map .entry)) (mark column bit) ⌝ }
+{
+    if column.is_chapter() {
+        return false;
+    }
+    if column.is_nullable() {
+        return is_set(map, bit);
+    }
+    true
+}
+
+// Whether a column with this bit is a chapter whose bit is set.
+fn is_chapter_set(column: Column, bit: usize, map: &[u8]) -> bool
+    ensures { λ r. ⌜ r ≡ chapterPresent (now (map .entry)) (mark column bit) ⌝ }
+{
+    if column.is_chapter() {
+        if column.is_nullable() {
+            return is_set(map, bit);
+        }
+        return false;
+    }
+    false
+}
+
+// 1 where so, else 0.
+fn one(so: bool) -> usize
+    ensures { λ r. ⌜ r ≡ one so ⌝ }
+{
+    if so {
+        return 1;
+    }
+    0
+}
+
+// How many of the first `n` columns are nullable.
+fn count_nullable<'a>(
+    codes: &'a [u8; 64],
+    flags: &'a [u8; 64],
+    maxima: &'a [u16; 64],
+    n: usize,
+) -> usize
+    requires { ⌜ n ≤ 64 ⌝ }
+    ensures { λ r. ⌜ r ≡ nullables (columnsFrom n 0 (now (codes .entry)) (now (flags .entry)) (now (maxima .entry))) ⌝ }
+{
+    let mut bits = 0;
+    let mut i = 0;
+    while i < n {
+        bits += one(column_of(codes, flags, maxima, i).is_nullable());
+        i += 1;
+    }
+    bits
+}
+
+// Opens the row at `at`: its map is whole and no chapter's bit is set. Where its data start.
+fn open_row<'a>(
+    codes: &'a [u8; 64],
+    flags: &'a [u8; 64],
+    maxima: &'a [u16; 64],
+    n: usize,
+    row: &[u8],
+    at: usize,
+) -> IntRead
+    requires { ⌜ n ≤ 64 ⌝ }
+    ensures { λ r. ⌜ toldInt r ≡ opened (columnsFrom n 0 (now (codes .entry)) (now (flags .entry)) (now (maxima .entry))) (now (row .entry)) at ⌝ }
+{
+    let bits = count_nullable(codes, flags, maxima, n);
+    let size = map_bytes(bits);
+    if lacks(row.len(), at, size) {
+        return IntRead::Refused(Error {
+            kind: ErrorKind::Short,
+            offset: row.len(),
+            input: Input::Single,
+        });
+    }
+    let mut bit = 0;
+    let mut i = 0;
+    while i < n {
+        let column = column_of(codes, flags, maxima, i);
+        if is_chapter_set(column, bit, &row[at..]) {
+            return IntRead::Refused(Error {
+                kind: ErrorKind::ChapterBit,
+                offset: at + bit / 8,
+                input: Input::Single,
+            });
+        }
+        bit += one(column.is_nullable());
+        i += 1;
+    }
+    IntRead::Int(at + size)
+}
+
+// The walk from `start` over the first `k` columns, by this map.
+fn walk_row<'a>(
+    codes: &'a [u8; 64],
+    flags: &'a [u8; 64],
+    maxima: &'a [u16; 64],
+    n: usize,
+    map: &[u8],
+    row: &[u8],
+    start: usize,
+    k: usize,
+) -> WalkRead
+    requires { ⌜ n ≤ 64 ⌝ }
+    ensures { λ r. ⌜ toldWalk r ≡ walk (present (now (map .entry))) (now (row .entry)) k (marks 0 (columnsFrom n 0 (now (codes .entry)) (now (flags .entry)) (now (maxima .entry)))) (place start 0) ⌝ }
+{
+    let last = lesser(n, k);
+    let mut bit = 0;
+    let mut position = start;
+    let mut prefixes = 0;
+    let mut i = 0;
+    while i < last {
+        let column = column_of(codes, flags, maxima, i);
+        if is_present(column, bit, map) {
+            match field_at(column, row, position) {
+                FieldRead::Refused(e) => {
+                    return WalkRead::Refused(e);
+                }
+                FieldRead::Found(f) => {
+                    position = f.end;
+                    prefixes += f.prefixes;
+                    bit += one(column.is_nullable());
+                    i += 1;
+                }
+            }
+        } else {
+            bit += one(column.is_nullable());
+            i += 1;
+        }
+    }
+    WalkRead::At {
+        position: position,
+        prefixes: prefixes,
+    }
+}
+
+// The same error, about the row.
+fn about_row(e: Error) -> LookUp
+    ensures { λ r. ⌜ r ≡ look.Refused (record { kind = e .kind; offset = e .offset; input = input.Row }) ⌝ }
+{
+    let kind = e.kind;
+    LookUp::Refused(Error {
+        kind,
+        offset: e.offset,
+        input: Input::Row,
+    })
+}
+
+// Column `k` of a row that opens, its data from `start` on: a chapter, null, or its field by the walk to it.
+fn look_at<'a>(
+    codes: &'a [u8; 64],
+    flags: &'a [u8; 64],
+    maxima: &'a [u16; 64],
+    n: usize,
+    row: &[u8],
+    start: usize,
+    k: usize,
+) -> LookUp
+    requires { ⌜ (n ≤ 64) × (k < n) × (opened (columnsFrom n 0 (now codes) (now flags) (now maxima)) (now row) 0 ≡ ok start) ⌝ }
+    ensures { λ r. ⌜ toldLookUp r ≡ lookUp (columnsFrom n 0 (now (codes .entry)) (now (flags .entry)) (now (maxima .entry))) (now (row .entry)) k ⌝ }
+{
+    let column = column_of(codes, flags, maxima, k);
+    if column.is_chapter() {
+        return LookUp::Chapter;
+    }
+    let bit = count_nullable(codes, flags, maxima, k);
+    if is_present(column, bit, row) {
+        return match walk_row(codes, flags, maxima, n, row, row, start, k) {
+            WalkRead::Refused(e) => about_row(e),
+            WalkRead::At { position, prefixes } => match field_at(column, row, position) {
+                FieldRead::Refused(e) => about_row(e),
+                FieldRead::Found(f) => LookUp::Found(Field {
+                    start: f.start,
+                    end: f.end,
+                    prefixes: prefixes + f.prefixes,
+                }),
+            },
+        };
+    }
+    LookUp::Null
+}
+
+// What a row of these columns has at column `k`.
+pub fn look_up(columns: Columns, row: &[u8], k: usize) -> LookUp
+    ensures { λ r. ⌜ toldLookUp r ≡ lookUpRow (columnsIn columns) (now (row .entry)) k ⌝ }
+{
+    if row.len() > LIMIT {
+        return LookUp::Refused(Error {
+            kind: ErrorKind::TooLarge,
+            offset: 0,
+            input: Input::Row,
+        });
+    }
+    let n = lesser(columns.count, 64);
+    if k >= n {
+        return LookUp::Refused(Error {
+            kind: ErrorKind::Missing,
+            offset: 0,
+            input: Input::Column,
+        });
+    }
+    match open_row(&columns.codes, &columns.flags, &columns.maxima, n, row, 0) {
+        IntRead::Refused(e) => about_row(e),
+        IntRead::Int(start) => look_at(
+            &columns.codes,
+            &columns.flags,
+            &columns.maxima,
+            n,
+            row,
+            start,
+            k,
+        ),
+    }
+}
+
+// Where the row at `at` of an input ends, all its fields included.
+pub fn row_end(columns: Columns, row: &[u8], at: usize) -> IntRead
+    ensures { λ r. ⌜ toldInt r ≡ rowEnd (columnsIn columns) (now (row .entry)) at ⌝ }
+{
+    let n = lesser(columns.count, 64);
+    match open_row(&columns.codes, &columns.flags, &columns.maxima, n, row, at) {
+        IntRead::Refused(e) => IntRead::Refused(e),
+        IntRead::Int(start) => {
+            match walk_row(
+                &columns.codes,
+                &columns.flags,
+                &columns.maxima,
+                n,
+                &row[at..],
+                row,
+                start,
+                n,
+            ) {
+                WalkRead::Refused(e) => IntRead::Refused(e),
+                WalkRead::At {
+                    position,
+                    prefixes: _,
+                } => IntRead::Int(position),
+            }
+        }
+    }
+}
