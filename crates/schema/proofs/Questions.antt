@@ -126,7 +126,7 @@ slots-of b table bytes long f h k l =
 
 -- A question of one schema by what the schema's selection says.
 module _ {A : Type 0} (b : Bytes) (k : ℕ) (rest : List Schema → List Entry → Read A) where
-  answer-by : withSchema b alone k rest ≡ (selectedOf b k >>= λ x. rest (x .schemas) (x .columns))
+  pub answer-by : withSchema b alone k rest ≡ (selectedOf b k >>= λ x. rest (x .schemas) (x .columns))
   unfolding selectedOf
   answer-by =
       with-alone b k rest
