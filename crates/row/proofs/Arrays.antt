@@ -8,6 +8,7 @@ use native.Mathlib.Omega.{arith}
 use lib.ListN.{length, getD, take, drop, length-drop}
 use lib.Seq.{take-all}
 use Rattle.wire.specs.Read.{Bytes, ok, pick}
+use Rattle.wire.specs.Bits.{mapBytes}
 use Rattle.column.specs.declared.column.Column.{Column}
 use Rattle.column.specs.declared.field.Field.{Field}
 use Rattle.column.specs.Columns.{isNullable, isVariable}
@@ -15,6 +16,7 @@ use Rattle.column.specs.Fields.{fieldAt}
 use Rattle.column.proofs.Laws.{field-told}
 use Rattle.column.specs.Layout.{mostColumns, layout, columnIn, columnsFrom, columnsIn}
 use Rattle.row.specs.Presence.{noColumn, one, nullables, Mark, mark, bitOf, markOf}
+use Rattle.row.specs.Updates.{updateBytes}
 use Rattle.row.proofs.Laws.{bit-next, bit-few, layout-count, layout-column}
 
 module _ (codes flags maxima : List ℕ) where
@@ -69,6 +71,11 @@ module _ (codes flags maxima : List ℕ) where
       let y = bit-next (columnsFrom n 0 codes flags maxima) i (omega (arith, length-from n 0, h)) in
       let z = bit-few (columnsFrom n 0 codes flags maxima) (i + 1) in
       (omega (arith, e, x, y), omega (arith, e, x, y, z))
+
+  -- the bytes of a map of update data
+  pub update-bytes : (n : ℕ) → updateBytes (columnsFrom n 0 codes flags maxima) ≡ mapBytes n
+  unfolding updateBytes
+  update-bytes n = ap mapBytes (length-from n 0)
 
 -- the part of a row from `at` on, as it is lent
 pub rest : (row : Bytes) (at : ℕ) → take (length row - at) (drop at row) ≡ drop at row

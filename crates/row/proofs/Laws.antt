@@ -1,6 +1,6 @@
 -- Laws of presence, of the walk and of look-up. The functions' proofs and the layers above cite these.
 -- Assumes nothing.
-use Prim.Native.Nat.{ℕ, zero, suc, _+_, _/_, _≤_, _<_, min}
+use Prim.Native.Nat.{ℕ, zero, suc, _+_, _*_, _/_, _≤_, _<_, min}
 use mathlib.Core.List.{List, [], _∷_, map}
 use mathlib.Core.Bool.{Bool, true, false}
 use mathlib.Core.Path.{_≡_, refl, ap, _∙_}
@@ -14,7 +14,7 @@ use borrow.Author.Tests.{ltb-true, ltb-false, lt-ltb, le-ltb}
 use Rattle.wire.specs.declared.error.Input.{Input}
 use Rattle.wire.specs.declared.error.Input.the-variants as input
 use Rattle.wire.specs.Read.{Bytes, Read, ok, bad, _>>=_, pick, check, about, limit}
-use Rattle.wire.specs.Bits.{bitSet}
+use Rattle.wire.specs.Bits.{bitSet, mapBytes}
 use Rattle.wire.proofs.Laws.{whole-fits, whole-short, sized-over, sized-within}
 use Rattle.column.specs.declared.column.Column.{Column}
 use Rattle.column.specs.declared.field.Field.{Field}
@@ -403,6 +403,16 @@ module _ (cs : List Column) (row : Bytes) where
     unfolding fieldCount about
     count-well s g = simp (sized-within row h, g)
 
+-- A map has a bit for each of n, and no more bytes than that.
+
+pub map-bits : (n : ℕ) → n ≤ 8 * mapBytes n
+unfolding mapBytes
+map-bits n = omega arith
+
+pub map-few : (n : ℕ) → mapBytes n ≤ n
+unfolding mapBytes
+map-few n = omega arith
+
 -- Columns that are always present, and set bits, counted along a loop.
 
 pub always-zero : (cs : List Column) → always (take 0 cs) ≡ 0
@@ -417,20 +427,23 @@ always-suc [] i h = absurd (omega arith)
 always-suc (c ∷ cs) zero h = omega arith
 always-suc (c ∷ cs) (suc i) h = omega (arith, always-suc cs i (omega arith))
 
-module _ (cs : List Column) (i : ℕ) (h : i < length cs) where
-  pub always-chapter : isChapter (getD cs i noColumn) ≡ true → always (take (i + 1) cs) ≡ always (take i cs)
-  always-chapter c = rw (add-one i) (always-suc cs i h ∙ rw c (omega arith))
+-- one column more, by what is counted for it
+pub always-one :
+    (cs : List Column) (i : ℕ) → i < length cs → {o : ℕ} → pick (isChapter (getD cs i noColumn)) 0 (pick (isNullable (getD cs i noColumn)) 0 1) ≡ o →
+    always (take (i + 1) cs) ≡ always (take i cs) + o
+always-one cs i h e = rw (add-one i) (always-suc cs i h ∙ ap (λ (o : ℕ). always (take i cs) + o) e)
 
-  pub always-nullable : isNullable (getD cs i noColumn) ≡ true → always (take (i + 1) cs) ≡ always (take i cs)
-  always-nullable n = rw (add-one i) (always-suc cs i h ∙ rw n (go (isChapter (getD cs i noColumn))))
-    where
-      go : (t : Bool) → always (take i cs) + pick t 0 0 ≡ always (take i cs)
-      go true = omega arith
-      go false = omega arith
-
-  pub always-next :
-      isChapter (getD cs i noColumn) ≡ false → isNullable (getD cs i noColumn) ≡ false → always (take (i + 1) cs) ≡ always (take i cs) + 1
-  always-next c n = rw (add-one i) (always-suc cs i h ∙ rw (c, n))
+-- no more than there are columns
+pub always-few : (cs : List Column) (i : ℕ) → always (take i cs) ≤ i
+unfolding always
+always-few cs zero = omega arith
+always-few [] (suc i) = omega arith
+always-few (c ∷ cs) (suc i) = omega (arith, always-few cs i, most (isChapter c) (isNullable c))
+  where
+    most : (k n : Bool) → pick k 0 (pick n 0 1) ≤ 1
+    most true n = omega arith
+    most false true = omega arith
+    most false false = omega arith
 
 pub always-end : (cs : List Column) → always (take (length cs) cs) ≡ always cs
 always-end cs = ap always (take-length cs)

@@ -7,7 +7,8 @@ pub mod Later
 pub mod UpdateLaws
 pub mod UpdateFound
 pub mod UpdateLater
-pub mod Current
+pub mod CurrentValues
+pub mod Parts
 pub mod Shift
 pub mod Reserved
 pub mod BitCounts

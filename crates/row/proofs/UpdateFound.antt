@@ -33,6 +33,19 @@ pub record Examined (cs : List Column) (row : Bytes) (at e : ℕ) : Type 0 where
   pub walk : updateWalked cs row at (length cs) ≡ ok last
   pub ends : last .at ≡ e
 
+-- update data that open: where their fields start
+pub update-opened-ok : (cs : List Column) (row : Bytes) (at s : ℕ) → updateOpened cs row at ≡ ok s → (s ≡ at + 2 * updateBytes cs) × (s ≤ length row)
+unfolding updateOpened
+update-opened-ok cs row at s h =
+    let (b, x, y) = bind-ok (whole row at (2 * updateBytes cs)) _ s h in
+    let (u, x1, y1) = bind-ok (clear (chapterMarked (drop at row)) 12 at (numbered 0 cs)) _ s y in
+    let (v, x2, y2) = bind-ok (clear (chapterMarked (drop (at + updateBytes cs) row)) 12 (at + updateBytes cs) (numbered 0 cs)) _ s y1 in
+    let (z, x3, y3) =
+    bind-ok (clear (forceBroken (drop at row) (drop (at + updateBytes cs) row)) 13 (at + updateBytes cs) (numbered 0 cs)) _ s y2 in
+    let (p, l) = whole-ok row at (2 * updateBytes cs) b x in
+    let same : b ≡ s = ok-ok y3 in
+    (omega (arith, p .ends, l, same), omega (arith, p .inside, same))
+
 pub update-end-told : (cs : List Column) (row : Bytes) (at e : ℕ) → updateEnd cs row at ≡ ok e → Examined cs row at e
 unfolding updateEnd updateOpened
 update-end-told cs row at e h =

@@ -9,15 +9,15 @@ use lib.ListN.{length, getD, drop}
 use Rattle.wire.specs.declared.error.Input.{Input}
 use Rattle.wire.specs.declared.error.Input.the-variants as input
 use Rattle.wire.specs.Read.{Bytes, Read, ok, bad, pick, about, limit}
-use Rattle.wire.specs.Bits.{bitSet}
+use Rattle.wire.specs.Bits.{bitSet, mapBytes}
 use Rattle.wire.proofs.Laws.{whole-fits, whole-short, sized-over, sized-within}
 use Rattle.column.specs.declared.column.Column.{Column}
 use Rattle.column.specs.declared.field.Field.{Field}
 use Rattle.column.specs.Columns.{isChapter, isNullable}
 use Rattle.column.specs.Fields.{fieldAt}
 use Rattle.row.specs.Presence.{noColumn, Mark, mark, noMark, clear}
-use Rattle.row.specs.Rows.{Place, place, step, arrive, Answer, lookUp}
-use Rattle.row.specs.Updates.{numbered, updateBytes, chapterMarked, forceBroken, carried, carriedIn, updateOpened, updateWalked, updateEnd, field, null, unchanged, chapter, updateField, updateColumn, lookUpdate, updated, forced, original, fromRow, currentBy, current, currentRow}
+use Rattle.row.specs.Rows.{Place, place, step, walk, arrive, Answer, lookUp}
+use Rattle.row.specs.Updates.{numbered, updateBytes, chapterMarked, forceBroken, carried, carriedIn, updateOpened, updateWalked, updateEnd, field, null, unchanged, chapter, updateField, updateColumn, lookUpdate, lookUpdateRow, updated, forced, original, fromRow, currentBy, current, currentRow}
 use Rattle.row.proofs.Laws.{clear-end, clear-found, clear-next, step-absent, step-field, step-refused, walk-zero, walk-next, walk-ended, known-not, known-well}
 
 -- The mark of a column: its bit is its number.
@@ -110,6 +110,11 @@ module _ (cs : List Column) (broken : Mark → Bool) (code at i : ℕ) where
         broken (mark (getD cs i noColumn) i) ≡ false → clear broken code at (drop i (numbered 0 cs)) ≡ clear broken code at (drop (i + 1) (numbered 0 cs))
     rule-next e = clear-next broken code at (numbered 0 cs) i (omega (arith, length-numbered 0 cs)) (ap broken (number-at cs i h) ∙ e)
 
+-- the byte of bit i lies in a map of n bits
+pub map-byte : (n i : ℕ) → i < n → i / 8 < mapBytes n
+unfolding mapBytes
+map-byte n i h = omega (arith, h)
+
 -- Update data open, or not.
 
 module _ (cs : List Column) (row : Bytes) (at : ℕ) where
@@ -143,6 +148,20 @@ module _ (cs : List Column) (row : Bytes) (at : ℕ) where
             updateOpened cs row at ≡ ok (at + 2 * updateBytes cs)
         unfolding updateOpened
         update-well c = simp (whole-fits row at (2 * updateBytes cs) h, u, f, c)
+
+-- A walk over numbered columns, one column further.
+pub numbers-next :
+    (has : Mark → Bool) (row : Bytes) (cs : List Column) (i : ℕ) (w : Place) {v : Place} → i < length cs → walk has row i (numbered 0 cs) w ≡ ok v →
+    walk has row (i + 1) (numbered 0 cs) w ≡ step has row (mark (getD cs i noColumn) i) v
+numbers-next has row cs i w {v} h e =
+    walk-next has row i (numbered 0 cs) w (omega (arith, length-numbered 0 cs)) e ∙ ap (λ (m : Mark). step has row m v) (number-at cs i h)
+
+-- the walk of update data, by where the force-null map and the fields start
+pub update-walked-from :
+    (cs : List Column) (row : Bytes) (at k : ℕ) {force start : ℕ} → force ≡ at + updateBytes cs → start ≡ at + 2 * updateBytes cs →
+    walk (carried (drop at row) (drop force row)) row k (numbered 0 cs) (place start 0) ≡ updateWalked cs row at k
+unfolding updateWalked carriedIn
+update-walked-from cs row at k e f = rw (e, f)
 
 -- The walk of update data at `at`, one column further.
 
@@ -222,12 +241,30 @@ module _ (cs : List Column) (update : Bytes) (k : ℕ) where
           unfolding updateColumn about
           look-update-null f = look-update-open ∙ simp (c, u, f)
 
-          pub look-update-found :
-              bitSet (drop (updateBytes cs) update) k ≡ false → (p n : ℕ) → updateWalked cs update 0 k ≡ ok (place p n) → (f : Field) →
-              fieldAt (getD cs k noColumn) update p ≡ ok f →
-              lookUpdate cs update k ≡ ok (field (record { start = f .start; end = f .end; prefixes = n + f .prefixes }))
-          unfolding updateColumn updateField arrive about
-          look-update-found f p n x g y = look-update-open ∙ simp (c, u, f, x, y)
+          module _ (f : bitSet (drop (updateBytes cs) update) k ≡ false) where
+            pub look-update-walk : {e o : ℕ} {i : Input} → updateWalked cs update 0 k ≡ bad e o i → lookUpdate cs update k ≡ bad e o input.Update
+            unfolding updateColumn updateField about
+            look-update-walk x = look-update-open ∙ simp (c, u, f, x)
+
+            module _ (p n : ℕ) (x : updateWalked cs update 0 k ≡ ok (place p n)) where
+              pub look-update-bad :
+                  {e o : ℕ} {i : Input} → fieldAt (getD cs k noColumn) update p ≡ bad e o i → lookUpdate cs update k ≡ bad e o input.Update
+              unfolding updateColumn updateField arrive about
+              look-update-bad y = look-update-open ∙ simp (c, u, f, x, y)
+
+              pub look-update-found :
+                  (g : Field) → fieldAt (getD cs k noColumn) update p ≡ ok g →
+                  lookUpdate cs update k ≡ ok (field (record { start = g .start; end = g .end; prefixes = n + g .prefixes }))
+              unfolding updateColumn updateField arrive about
+              look-update-found g y = look-update-open ∙ simp (c, u, f, x, y)
+
+  pub look-update-large : limit < length update → lookUpdateRow cs update k ≡ bad 19 0 input.Update
+  unfolding lookUpdateRow about
+  look-update-large h = simp (sized-over update h)
+
+  pub look-update-sized : length update ≤ limit → lookUpdateRow cs update k ≡ lookUpdate cs update k
+  unfolding lookUpdateRow about
+  look-update-sized h = simp (sized-within update h)
 
 -- The ways out of the current value.
 

@@ -2,4 +2,5 @@ pub mod Presence
 pub mod Rows
 pub mod Told
 pub mod Updates
+pub mod Parts
 pub mod Examples

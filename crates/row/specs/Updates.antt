@@ -90,6 +90,12 @@ lookUpdate columns update k = do
   _ ← about input.Update (updateEnd columns update 0)
   about input.Update (updateColumn columns update k)
 
+-- a look-up in any update data: their size first (19)
+unfoldable pub lookUpdateRow : List Column → Bytes → ℕ → Read UpdateAnswer
+lookUpdateRow columns update k = do
+  _ ← about input.Update (sized update)
+  lookUpdate columns update k
+
 -- how many of the columns up to column k, its own included, have a field of variable length in the update data
 unfoldable pub updatePrefixCount : List Column → Bytes → ℕ → ℕ
 updatePrefixCount columns update k = count (prefixed (carriedIn columns update 0)) (take (suc k) (numbered 0 columns))

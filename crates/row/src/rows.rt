@@ -1,14 +1,18 @@
-// Original rows: presence, opening, the walk, look-up by the walk, the end of a row.
+// Original rows: presence, opening, the walk, look-up by the walk, the end of a row, the number of fields.
 ghost use mathlib.Core.Path.{_≡_};
-ghost use Prim.Native.Nat.{_≤_, _<_, min};
-ghost use Rattle.wire.specs.Read.{ok};
+ghost use Prim.Native.Nat.{_≤_, _<_, _*_};
+ghost use lib.ListN.{length};
+ghost use Rattle.wire.specs.Read.{ok, pick};
 ghost use Rattle.wire.specs.Integers.{toldInt};
-ghost use Rattle.column.specs.Layout.{columnIn, columnsFrom, columnsIn};
+ghost use Rattle.column.specs.Columns.{isChapter, isNullable};
+ghost use Rattle.column.specs.Layout.{columnsFrom, columnsIn};
 ghost use Rattle.row.specs.Presence.{one, mark, marks, nullables, present, chapterPresent};
-ghost use Rattle.row.specs.Rows.{opened, place, walk, rowEnd, lookUp, lookUpRow};
+ghost use Rattle.row.specs.Rows.{opened, place, walk, rowEnd, lookUp, lookUpRow, always, setBits, fieldCount};
 ghost use Rattle.wire.specs.declared.error.Input.the-variants as input;
 ghost use Rattle.row.specs.declared.rows.LookUp.the-variants as look;
 ghost use Rattle.row.specs.Told.{toldWalk, toldLookUp};
+use crate::column_of;
+use crate::lesser;
 use column::column::Column;
 use column::columns::Columns;
 use column::field::Field;
@@ -35,33 +39,6 @@ pub enum LookUp {
     Null,
     Chapter,
     Refused(Error),
-}
-
-// The lesser of two numbers.
-fn lesser(a: usize, b: usize) -> usize
-    ensures { λ r. ⌜ r ≡ min a b ⌝ }
-{
-    if a < b {
-        return a;
-    }
-    b
-}
-
-// Column `i` of a schema's arrays.
-fn column_of<'a>(
-    codes: &'a [u8; 64],
-    flags: &'a [u8; 64],
-    maxima: &'a [u16; 64],
-    i: usize,
-) -> Column
-    requires { ⌜ i < 64 ⌝ }
-    ensures { λ r. ⌜ r ≡ columnIn (now (codes .entry)) (now (flags .entry)) (now (maxima .entry)) i ⌝ }
-{
-    Column {
-        code: codes[i],
-        flags: flags[i],
-        maximum: maxima[i],
-    }
 }
 
 // Whether a column with this bit has a field.
@@ -304,6 +281,88 @@ pub fn row_end(columns: Columns, row: &[u8], at: usize) -> IntRead
                     prefixes: _,
                 } => IntRead::Int(position),
             }
+        }
+    }
+}
+
+// 1 for a column that every row has a field of, else 0.
+fn always_one(column: Column) -> usize
+    ensures { λ r. ⌜ r ≡ pick (isChapter column) 0 (pick (isNullable column) 0 1) ⌝ }
+{
+    if column.is_chapter() {
+        return 0;
+    }
+    if column.is_nullable() {
+        return 0;
+    }
+    1
+}
+
+// How many of the first `n` columns every row has a field of.
+fn count_always<'a>(
+    codes: &'a [u8; 64],
+    flags: &'a [u8; 64],
+    maxima: &'a [u16; 64],
+    n: usize,
+) -> usize
+    requires { ⌜ n ≤ 64 ⌝ }
+    ensures { λ r. ⌜ r ≡ always (columnsFrom n 0 (now (codes .entry)) (now (flags .entry)) (now (maxima .entry))) ⌝ }
+{
+    let mut count = 0;
+    let mut i = 0;
+    while i < n {
+        count += always_one(column_of(codes, flags, maxima, i));
+        i += 1;
+    }
+    count
+}
+
+// How many of the first `n` bits of a map are set: the ones of each byte, the reserved bits of the last one cleared.
+fn count_set(map: &[u8], n: usize) -> usize
+    requires { ⌜ n ≤ 8 * length (now map) ⌝ }
+    ensures { λ r. ⌜ r ≡ setBits (now (map .entry)) n ⌝ }
+{
+    let whole = n / 8;
+    let left = n % 8;
+    let mut count: usize = 0;
+    let mut i: usize = 0;
+    while i < whole {
+        count += u8::count_ones(map[i]) as usize;
+        i += 1;
+    }
+    if left != 0 {
+        let reserved = 8 - left;
+        let kept = map[whole] >> reserved << reserved;
+        count += u8::count_ones(kept) as usize;
+    }
+    count
+}
+
+// The number of fields of a row, by its map alone.
+pub fn field_count(columns: Columns, row: &[u8]) -> IntRead
+    ensures { λ r. ⌜ toldInt r ≡ fieldCount (columnsIn columns) (now (row .entry)) ⌝ }
+{
+    if row.len() > LIMIT {
+        return IntRead::Refused(Error {
+            kind: ErrorKind::TooLarge,
+            offset: 0,
+            input: Input::Row,
+        });
+    }
+    let n = lesser(columns.count, 64);
+    match open_row(&columns.codes, &columns.flags, &columns.maxima, n, row, 0) {
+        IntRead::Refused(e) => {
+            let kind = e.kind;
+            IntRead::Refused(Error {
+                kind,
+                offset: e.offset,
+                input: Input::Row,
+            })
+        }
+        IntRead::Int(_) => {
+            let bits = count_nullable(&columns.codes, &columns.flags, &columns.maxima, n);
+            let fixed = count_always(&columns.codes, &columns.flags, &columns.maxima, n);
+            IntRead::Int(fixed + count_set(row, bits))
         }
     }
 }

@@ -1,0 +1,102 @@
+-- What is left to check from column i on is what there was from the start.
+-- Assumes nothing.
+use Prim.Native.Nat.{ℕ, _≤_, _<_, _-_, _+_}
+use mathlib.Core.Path.{_≡_, refl, sym, ap, _∙_}
+use mathlib.Core.Bool.{Bool, true, false}
+use mathlib.Core.List.{List}
+use native.Mathlib.Omega.{arith}
+use lib.ListN.{length, drop, take, getD}
+use Rattle.wire.specs.Read.{Bytes}
+use Rattle.wire.specs.Bits.{mapBytes}
+use Rattle.column.specs.declared.column.Column.{Column}
+use Rattle.column.specs.Layout.{columnsFrom}
+use Rattle.row.specs.Presence.{Mark, mark, clear, noColumn}
+use Rattle.row.specs.Updates.{numbered, chapterMarked}
+use Rattle.row.proofs.UpdateLaws.{rule-end, rule-found, rule-next, map-byte}
+use Rattle.row.proofs.Arrays.{length-from, asked, rest}
+use borrow.Author.Needs.{needs}
+use Rattle.row.proofs.updates.check_chapters.Statement.{statement}
+use Rattle.row.proofs.updates.check_chapters.Tie as tie
+
+abbrev Inv-loop : tie.InvT-loop
+Inv-loop codes flags maxima n row at i₀ i = (i ≤ n) × (clear (chapterMarked (drop at row)) 12 at (numbered 0 (columnsFrom n 0 codes flags maxima)) ≡ clear (chapterMarked (drop at row)) 12 at (drop i (numbered 0 (columnsFrom n 0 codes flags maxima))))
+
+abbrev μ-loop : tie.MeasureT-loop
+μ-loop codes flags maxima n row at i₀ i = n - i
+
+loop-holds : tie.Need-loop-holds Inv-loop μ-loop
+loop-holds c = (search needs, refl)
+
+sub-is-chapter-marked : tie.Need-sub-is-chapter-marked Inv-loop μ-loop
+sub-is-chapter-marked c =
+    let pre = c .before .before .before .before .pre in
+    omega (arith, pre)
+
+part-is-chapter-marked-start : tie.Need-part-is-chapter-marked-start Inv-loop μ-loop
+part-is-chapter-marked-start c =
+    let pre = c .before .before .before .before .pre in
+    omega (arith, pre)
+
+add-t17 : tie.Need-add-t17 Inv-loop μ-loop
+add-t17 c =
+    let pre = c .before .before .before .before .before .before .before .pre in
+    let args = c .before .before .before .before .before .before .before .args in
+    let fits = c .before .before .before .before .before .before .before .fits in
+    let loop = c .before .before .before .before .before .loop in
+    let loop-test = c .before .before .before .before .loop-test in
+    omega (arith, pre, map-byte (args .n) (loop .i) (loop-test .taken), fits)
+
+returns : tie.Need-returns Inv-loop μ-loop
+returns c =
+    let args = c .before .before .before .before .before .before .before .args in
+    let loop = c .before .before .before .before .before .loop in
+    let loop-test = c .before .before .before .before .loop-test in
+    let column-of = c .before .before .before .column-of in
+    let is-chapter-marked = c .before .is-chapter-marked in
+    let cs : List Column = columnsFrom (args .n) 0 (args .codes .now) (args .flags .now) (args .maxima .now) in
+    let h : loop .i < length cs = omega (arith, length-from (args .codes .now) (args .flags .now) (args .maxima .now) (args .n) 0, loop-test .taken) in
+    let e : chapterMarked (drop (args .at) (args .row .now)) (mark (getD cs (loop .i) noColumn) (loop .i)) ≡ is-chapter-marked .result =
+    asked (args .codes .now) (args .flags .now) (args .maxima .now) (λ (x : Column). chapterMarked (drop (args .at) (args .row .now)) (mark x (loop .i))) (args .n) (loop .i) (column-of .result) (loop-test .taken) (column-of .ensures)
+    (is-chapter-marked .ensures ∙ ap (λ (m : Bytes). chapterMarked m (mark (column-of .result) (loop .i))) (rest (args .row .now) (args .at))) in
+    sym (loop .inv .1 ∙ rule-found cs (chapterMarked (drop (args .at) (args .row .now))) 12 (args .at) (loop .i) h (e ∙ c .if1 .taken))
+
+loop-again : tie.Need-loop-again Inv-loop μ-loop
+loop-again c =
+    let args = c .before .before .before .before .before .before .before .args in
+    let loop = c .before .before .before .before .before .loop in
+    let loop-test = c .before .before .before .before .loop-test in
+    let column-of = c .before .before .before .column-of in
+    let is-chapter-marked = c .before .is-chapter-marked in
+    let cs : List Column = columnsFrom (args .n) 0 (args .codes .now) (args .flags .now) (args .maxima .now) in
+    let h : loop .i < length cs = omega (arith, length-from (args .codes .now) (args .flags .now) (args .maxima .now) (args .n) 0, loop-test .taken) in
+    let e : chapterMarked (drop (args .at) (args .row .now)) (mark (getD cs (loop .i) noColumn) (loop .i)) ≡ is-chapter-marked .result =
+    asked (args .codes .now) (args .flags .now) (args .maxima .now) (λ (x : Column). chapterMarked (drop (args .at) (args .row .now)) (mark x (loop .i))) (args .n) (loop .i) (column-of .result) (loop-test .taken) (column-of .ensures)
+    (is-chapter-marked .ensures ∙ ap (λ (m : Bytes). chapterMarked m (mark (column-of .result) (loop .i))) (rest (args .row .now) (args .at))) in
+    (search needs, loop .inv .1 ∙ rule-next cs (chapterMarked (drop (args .at) (args .row .now))) 12 (args .at) (loop .i) h (e ∙ c .if1 .left))
+
+returns-2 : tie.Need-returns-2 Inv-loop μ-loop
+returns-2 c =
+    let args = c .before .before .before .args in
+    let loop = c .before .loop in
+    let cs : List Column = columnsFrom (args .n) 0 (args .codes .now) (args .flags .now) (args .maxima .now) in
+    let h : length cs ≤ loop .i = omega (arith, length-from (args .codes .now) (args .flags .now) (args .maxima .now) (args .n) 0, c .loop-test .left) in
+    sym (loop .inv .1 ∙ rule-end cs (chapterMarked (drop (args .at) (args .row .now))) 12 (args .at) (loop .i) h)
+
+pub check-chapters-spec : {M : Type 1} → statement M
+check-chapters-spec =
+    tie.close
+    (tie.spec
+    Inv-loop
+    μ-loop
+    loop-holds
+    (λ c κs. search needs)
+    sub-is-chapter-marked
+    part-is-chapter-marked-start
+    (λ c. search needs)
+    (λ c κs. search needs)
+    add-t17
+    returns
+    (λ c. search needs)
+    (λ c. search needs)
+    loop-again
+    returns-2)
