@@ -33,7 +33,7 @@ abbrev topBits : ℕ → ℕ → ℕ
 topBits b zero = 0
 topBits b (suc k) = topBits b k + b / 2 ^ (7 - k) % 2
 
-half-again : (b k : ℕ) → k < 8 → b / 2 ^ (7 - k) / 2 ≡ b / 2 ^ (8 - k)
+pub half-again : (b k : ℕ) → k < 8 → b / 2 ^ (7 - k) / 2 ≡ b / 2 ^ (8 - k)
 half-again b k l =
     let y : 8 - k ≡ suc (7 - k) = omega arith in
     div-div-eq-div-mul b (2 ^ (7 - k)) 2 ∙ ap (λ (x : ℕ). b / x) (sym (pow-suc 2 (7 - k))) ∙ ap (λ (x : ℕ). b / 2 ^ x) (sym y)

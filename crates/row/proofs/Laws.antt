@@ -49,9 +49,6 @@ bit-next cs i h = rw (add-one i) (bit-suc cs i h)
 pub bit-nullable : (cs : List Column) (i : ℕ) → i < length cs → isNullable (getD cs i noColumn) ≡ true → bitOf cs (i + 1) ≡ bitOf cs i + 1
 bit-nullable cs i h e = rw (add-one i) (bit-suc cs i h ∙ rw e)
 
-pub bit-plain : (cs : List Column) (i : ℕ) → i < length cs → isNullable (getD cs i noColumn) ≡ false → bitOf cs (i + 1) ≡ bitOf cs i
-bit-plain cs i h e = rw (add-one i) (bit-suc cs i h ∙ rw e (omega arith))
-
 -- behind the last column: all nullable columns
 pub bit-all : (cs : List Column) → bitOf cs (length cs) ≡ nullables cs
 unfolding bitOf nullables

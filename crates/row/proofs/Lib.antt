@@ -11,5 +11,6 @@ pub mod CurrentValues
 pub mod Parts
 pub mod Shift
 pub mod Reserved
+pub mod UpdateReserved
 pub mod BitCounts
 pub mod Examples

@@ -33,16 +33,52 @@ pub field-rest :
 unfolding fieldAt variableAt bytesAt readInt whole intAt
 field-rest c row other p l d = rw (l, d) refl
 
-module _ (cs : List Column) (row other : Bytes) (a : Alike cs row other) where
-  rest-from : (p : ℕ) → presenceBytes cs ≤ p → drop p row ≡ drop p other
+-- Two inputs of one length that are the same from `base` on: a walk that starts behind it goes alike, where it reads the same columns.
+module _ (row other : Bytes) (base : ℕ) (long : length row ≡ length other) (rest : drop base row ≡ drop base other) where
+  rest-from : (p : ℕ) → base ≤ p → drop p row ≡ drop p other
   rest-from p h =
-      let z : presenceBytes cs + (p - presenceBytes cs) ≡ p = omega arith in
+      let z : base + (p - base) ≡ p = omega arith in
       ap (λ (n : ℕ). drop n row) (sym z)
-      ∙ sym (drop-drop (p - presenceBytes cs) (presenceBytes cs) row)
-      ∙ ap (drop (p - presenceBytes cs)) (a .rest)
-      ∙ drop-drop (p - presenceBytes cs) (presenceBytes cs) other
+      ∙ sym (drop-drop (p - base) base row)
+      ∙ ap (drop (p - base)) rest
+      ∙ drop-drop (p - base) base other
       ∙ ap (λ (n : ℕ). drop n other) z
 
+  module _ (has had : Mark → Bool) where
+    step-alike : (m : Mark) (w : Place) → base ≤ w .at → has m ≡ had m → step has row m w ≡ step had other m w
+    unfolding step
+    step-alike m w h e = rw (e, field-rest (m .column) row other (w .at) long (rest-from (w .at) h)) refl
+
+    pub walk-alike :
+        (k : ℕ) (ms : List Mark) (w : Place) → base ≤ w .at → ((i : ℕ) → i < length ms → has (getD ms i noMark) ≡ had (getD ms i noMark)) →
+        walk has row k ms w ≡ walk had other k ms w
+    unfolding walk
+    walk-alike zero ms w h e = refl
+    walk-alike (suc k) [] w h e = refl
+    walk-alike (suc k) (m ∷ ms) w h e =
+        go (step has row m w) refl (λ v l. walk-alike k ms v l (λ i g. e (suc i) (omega arith)))
+        ∙ ap (λ (r : Read Place). r >>= walk had other k ms) (step-alike m w h (e 0 (omega arith)))
+      where
+        go :
+            (r : Read Place) → step has row m w ≡ r → ((v : Place) → base ≤ v .at → walk has row k ms v ≡ walk had other k ms v) →
+            step has row m w >>= walk has row k ms ≡ step has row m w >>= walk had other k ms
+        go (ok v) x f = rw x (f v (omega (arith, step-forward has row (step-told has row m w v x))))
+        go (bad c o i) x f = rw x refl
+
+    -- the field that such a walk comes to
+    pub arrive-alike :
+        (k : ℕ) (ms : List Mark) (w : Place) (c : Column) → base ≤ w .at → walk has row k ms w ≡ walk had other k ms w →
+        walk has row k ms w >>= arrive c row ≡ walk had other k ms w >>= arrive c other
+    unfolding arrive
+    arrive-alike k ms w c h e = go (walk has row k ms w) refl
+      where
+        go : (r : Read Place) → walk has row k ms w ≡ r → walk has row k ms w >>= arrive c row ≡ walk had other k ms w >>= arrive c other
+        go (ok v) x =
+            let l = walk-forward has row k ms w v x in
+            rw (← e) (rw (x, field-rest c row other (v .at) long (rest-from (v .at) (omega arith))) refl)
+        go (bad c o i) x = rw (← e) (rw x refl)
+
+module _ (cs : List Column) (row other : Bytes) (a : Alike cs row other) where
   own-bit : (i : ℕ) → i < length cs → isNullable (getD cs i noColumn) ≡ true → bitSet row (bitOf cs i) ≡ bitSet other (bitOf cs i)
   own-bit i h n = a .bits (bitOf cs i) (omega (arith, bit-nullable cs i h n, bit-below cs (i + 1)))
 
@@ -74,34 +110,13 @@ module _ (cs : List Column) (row other : Bytes) (a : Alike cs row other) where
   chapter-same : (i : ℕ) → i < length (marks 0 cs) → chapterPresent row (getD (marks 0 cs) i noMark) ≡ chapterPresent other (getD (marks 0 cs) i noMark)
   chapter-same i h = let g : i < length cs = omega (arith, length-marks 0 cs) in rw (mark-at cs i g) (chapter-of i g)
 
-  step-alike : (m : Mark) (w : Place) → presenceBytes cs ≤ w .at → present row m ≡ present other m → step (present row) row m w ≡ step (present other) other m w
-  unfolding step
-  step-alike m w h e = rw (e, field-rest (m .column) row other (w .at) (a .long) (rest-from (w .at) h)) refl
-
-  walk-alike :
-      (k : ℕ) (ms : List Mark) (w : Place) → presenceBytes cs ≤ w .at → ((i : ℕ) → i < length ms → present row (getD ms i noMark) ≡ present other (getD ms i noMark)) →
-      walk (present row) row k ms w ≡ walk (present other) other k ms w
-  unfolding walk
-  walk-alike zero ms w h e = refl
-  walk-alike (suc k) [] w h e = refl
-  walk-alike (suc k) (m ∷ ms) w h e =
-      go (step (present row) row m w) refl (λ v l. walk-alike k ms v l (λ i g. e (suc i) (omega arith)))
-      ∙ ap (λ (r : Read Place). r >>= walk (present other) other k ms) (step-alike m w h (e 0 (omega arith)))
-    where
-      go :
-          (r : Read Place) → step (present row) row m w ≡ r →
-          ((v : Place) → presenceBytes cs ≤ v .at → walk (present row) row k ms v ≡ walk (present other) other k ms v) →
-          step (present row) row m w >>= walk (present row) row k ms ≡ step (present row) row m w >>= walk (present other) other k ms
-      go (ok v) x f = rw x (f v (omega (arith, step-forward (present row) row (step-told (present row) row m w v x))))
-      go (bad c o i) x f = rw x refl
-
   opened-alike : opened cs row 0 ≡ opened cs other 0
   unfolding opened whole
   opened-alike = rw (a .long, clear-same (chapterPresent row) (chapterPresent other) 12 0 (marks 0 cs) chapter-same) refl
 
   walked-alike : (k : ℕ) → walked cs row 0 k ≡ walked cs other 0 k
   unfolding walked
-  walked-alike k = walk-alike k (marks 0 cs) (place (0 + presenceBytes cs) 0) (omega arith) present-same
+  walked-alike k = walk-alike row other (presenceBytes cs) (a .long) (a .rest) (present row) (present other) k (marks 0 cs) (place (0 + presenceBytes cs) 0) (omega arith) present-same
 
   -- the end of the row
   pub reserved-end : rowEnd cs row 0 ≡ rowEnd cs other 0
@@ -109,14 +124,10 @@ module _ (cs : List Column) (row other : Bytes) (a : Alike cs row other) where
   reserved-end = rw (opened-alike, walked-alike (length cs)) refl
 
   field-alike : (k : ℕ) → fieldOf cs row k ≡ fieldOf cs other k
-  unfolding fieldOf arrive walked
-  field-alike k = go (walked cs row 0 k) refl (walked-alike k)
-    where
-      go : (r : Read Place) → walked cs row 0 k ≡ r → walked cs row 0 k ≡ walked cs other 0 k → fieldOf cs row k ≡ fieldOf cs other k
-      go (ok w) x y =
-          let h = walk-forward (present row) row k (marks 0 cs) (place (0 + presenceBytes cs) 0) w x in
-          rw (← y) (rw (x, field-rest (getD cs k noColumn) row other (w .at) (a .long) (rest-from (w .at) (omega arith))) refl)
-      go (bad c o i) x y = rw (← y) (rw x refl)
+  unfolding fieldOf walked
+  field-alike k =
+      arrive-alike row other (presenceBytes cs) (a .long) (a .rest) (present row) (present other) k (marks 0 cs) (place (0 + presenceBytes cs) 0)
+      (getD cs k noColumn) (omega arith) (walked-alike k)
 
   look-alike : (k : ℕ) → k < length cs → lookUp cs row k ≡ lookUp cs other k
   unfolding lookUp columnOf

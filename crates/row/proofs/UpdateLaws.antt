@@ -18,7 +18,7 @@ use Rattle.column.specs.Fields.{fieldAt}
 use Rattle.row.specs.Presence.{noColumn, Mark, mark, noMark, clear}
 use Rattle.row.specs.Rows.{Place, place, step, walk, arrive, Answer, lookUp}
 use Rattle.row.specs.Updates.{numbered, updateBytes, chapterMarked, forceBroken, carried, carriedIn, updateOpened, updateWalked, updateEnd, field, null, unchanged, chapter, updateField, updateColumn, lookUpdate, lookUpdateRow, updated, forced, original, fromRow, currentBy, current, currentRow}
-use Rattle.row.proofs.Laws.{clear-end, clear-found, clear-next, step-absent, step-field, step-refused, walk-zero, walk-next, walk-ended, known-not, known-well}
+use Rattle.row.proofs.Laws.{clear-end, clear-found, clear-next, step-field, walk-next, known-not, known-well}
 
 -- The mark of a column: its bit is its number.
 
@@ -163,36 +163,14 @@ pub update-walked-from :
 unfolding updateWalked carriedIn
 update-walked-from cs row at k e f = rw (e, f)
 
--- The walk of update data at `at`, one column further.
-
-module _ (cs : List Column) (row : Bytes) (at : ℕ) where
-  pub update-walked-zero : updateWalked cs row at 0 ≡ ok (place (at + 2 * updateBytes cs) 0)
-  unfolding updateWalked
-  update-walked-zero = walk-zero _ _ _ _
-
-  pub update-walked-next :
-      (i : ℕ) {w : Place} → i < length cs → updateWalked cs row at i ≡ ok w →
-      updateWalked cs row at (i + 1) ≡ step (carriedIn cs row at) row (mark (getD cs i noColumn) i) w
-  unfolding updateWalked
-  update-walked-next i {w} h e =
-      walk-next (carriedIn cs row at) row i (numbered 0 cs) _ (omega (arith, length-numbered 0 cs)) e
-      ∙ ap (λ (m : Mark). step (carriedIn cs row at) row m w) (number-at cs i h)
-
-  module _ (i p n : ℕ) (h : i < length cs) (e : updateWalked cs row at i ≡ ok (place p n)) where
-    pub update-walked-absent : carriedIn cs row at (mark (getD cs i noColumn) i) ≡ false → updateWalked cs row at (i + 1) ≡ ok (place p n)
-    update-walked-absent t = update-walked-next i h e ∙ step-absent _ _ _ _ t
-
-    module _ (t : carriedIn cs row at (mark (getD cs i noColumn) i) ≡ true) where
-      pub update-walked-field :
-          (f : Field) → fieldAt (getD cs i noColumn) row p ≡ ok f → updateWalked cs row at (i + 1) ≡ ok (place (f .end) (n + f .prefixes))
-      update-walked-field f g = update-walked-next i h e ∙ step-field _ _ (mark (getD cs i noColumn) i) _ f t g
-
-      pub update-walked-refused :
-          (k : ℕ) {x o : ℕ} {name : Input} → i < k → fieldAt (getD cs i noColumn) row p ≡ bad x o name → updateWalked cs row at k ≡ bad x o name
-      unfolding updateWalked
-      update-walked-refused k l g =
-          walk-ended (carriedIn cs row at) row (i + 1) k (numbered 0 cs) _ (omega arith)
-          (update-walked-next i h e ∙ step-refused _ _ (mark (getD cs i noColumn) i) _ t g)
+-- the walk of update data past a field
+pub update-walked-field :
+    (cs : List Column) (row : Bytes) (at i p n : ℕ) → i < length cs → updateWalked cs row at i ≡ ok (place p n) →
+    carriedIn cs row at (mark (getD cs i noColumn) i) ≡ true → (f : Field) → fieldAt (getD cs i noColumn) row p ≡ ok f →
+    updateWalked cs row at (i + 1) ≡ ok (place (f .end) (n + f .prefixes))
+unfolding updateWalked
+update-walked-field cs row at i p n h e t f g =
+    numbers-next (carriedIn cs row at) row cs i _ h e ∙ step-field _ _ (mark (getD cs i noColumn) i) _ f t g
 
 -- The ways out of the end of update data.
 

@@ -350,7 +350,8 @@ pub fn field_count(columns: Columns, row: &[u8]) -> IntRead
         });
     }
     let n = lesser(columns.count, 64);
-    match open_row(&columns.codes, &columns.flags, &columns.maxima, n, row, 0) {
+    let opened = open_row(&columns.codes, &columns.flags, &columns.maxima, n, row, 0);
+    match opened {
         IntRead::Refused(e) => {
             let kind = e.kind;
             IntRead::Refused(Error {

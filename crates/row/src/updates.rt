@@ -152,13 +152,15 @@ fn open_update<'a>(
             input: Input::Single,
         });
     }
+    let force = at + size;
+    let start = force + size;
     match check_chapters(codes, flags, maxima, n, row, at) {
         Matched::Refused(e) => IntRead::Refused(e),
-        Matched::Same => match check_chapters(codes, flags, maxima, n, row, at + size) {
+        Matched::Same => match check_chapters(codes, flags, maxima, n, row, force) {
             Matched::Refused(e) => IntRead::Refused(e),
-            Matched::Same => match check_force(codes, flags, maxima, n, row, at, at + size) {
+            Matched::Same => match check_force(codes, flags, maxima, n, row, at, force) {
                 Matched::Refused(e) => IntRead::Refused(e),
-                Matched::Same => IntRead::Int(at + 2 * size),
+                Matched::Same => IntRead::Int(start),
             },
         },
     }

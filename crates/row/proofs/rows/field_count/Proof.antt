@@ -58,7 +58,7 @@ returns-2 c =
     let cs : List Column = columnsFrom (lesser .result) 0 (args .t1 .codes) (args .t1 .flags) (args .t1 .maxima) in
     let same : cs ≡ columnsIn (args .t1) = ap (λ (n : ℕ). columnsFrom n 0 (args .t1 .codes) (args .t1 .flags) (args .t1 .maxima)) (lesser .ensures) in
     let h : length (args .row .now) ≤ limit = omega (arith, if1 .left) in
-    sym (count-closed cs (args .row .now) h (sym (open-row .ensures) ∙ ap toldInt (c .before .e .given .1))) ∙ ap (λ (cs : List Column). fieldCount cs (args .row .now)) same
+    sym (count-closed cs (args .row .now) h (sym (open-row .ensures) ∙ ap toldInt (c .before .opened .given .1))) ∙ ap (λ (cs : List Column). fieldCount cs (args .row .now)) same
 
 returns-3 : tie.Need-returns-3
 returns-3 c =

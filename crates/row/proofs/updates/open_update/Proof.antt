@@ -36,6 +36,21 @@ returns c =
     let h = ltb-true (length row) (args .at + 2 * map-bytes .result) (sym (c .before .lacks .ensures) ∙ c .if1 .taken) in
     sym (update-short cs row (args .at) (omega (arith, h, size)))
 
+add-force : tie.Need-add-force
+add-force c =
+    let args = c .before .before .before .before .args in
+    let map-bytes = c .before .before .map-bytes in
+    let h = ltb-false (length (args .row .now)) (args .at + 2 * map-bytes .result) (sym (c .before .lacks .ensures) ∙ c .if1 .left) in
+    search needs
+
+add-start : tie.Need-add-start
+add-start c =
+    let args = c .before .before .before .before .args in
+    let fits = c .before .before .before .before .fits in
+    let map-bytes = c .before .before .map-bytes in
+    let h = ltb-false (length (args .row .now)) (args .at + 2 * map-bytes .result) (sym (c .before .lacks .ensures) ∙ c .if1 .left) in
+    omega (arith, h, fits)
+
 check-chapters-requires : tie.Need-check-chapters-requires
 check-chapters-requires c κs =
     let args = c .before .before .before .before .args in
@@ -43,15 +58,6 @@ check-chapters-requires c κs =
     let map-bytes = c .before .before .map-bytes in
     let h = ltb-false (length (args .row .now)) (args .at + 2 * map-bytes .result) (sym (c .before .lacks .ensures) ∙ c .if1 .left) in
     (pre, omega (arith, h, map-bytes .ensures))
-
-add-check-chapters : tie.Need-add-check-chapters
-add-check-chapters c =
-    let args = c .before .before .before .before .before .before .before .args in
-    let map-bytes = c .before .before .before .before .before .map-bytes in
-    let lacks = c .before .before .before .before .lacks in
-    let if1 = c .before .before .before .if1 in
-    let h = ltb-false (length (args .row .now)) (args .at + 2 * map-bytes .result) (sym (lacks .ensures) ∙ if1 .left) in
-    search needs
 
 check-chapters-requires-2 : tie.Need-check-chapters-requires-2
 check-chapters-requires-2 c κs =
@@ -63,15 +69,6 @@ check-chapters-requires-2 c κs =
     let h = ltb-false (length (args .row .now)) (args .at + 2 * map-bytes .result) (sym (lacks .ensures) ∙ if1 .left) in
     (pre, omega (arith, h, map-bytes .ensures))
 
-add-check-force : tie.Need-add-check-force
-add-check-force c =
-    let args = c .before .before .before .before .before .before .before .before .before .before .args in
-    let map-bytes = c .before .before .before .before .before .before .before .before .map-bytes in
-    let lacks = c .before .before .before .before .before .before .before .lacks in
-    let if1 = c .before .before .before .before .before .before .if1 in
-    let h = ltb-false (length (args .row .now)) (args .at + 2 * map-bytes .result) (sym (lacks .ensures) ∙ if1 .left) in
-    search needs
-
 check-force-requires : tie.Need-check-force-requires
 check-force-requires c κs =
     let args = c .before .before .before .before .before .before .before .before .before .before .args in
@@ -81,24 +78,6 @@ check-force-requires c κs =
     let if1 = c .before .before .before .before .before .before .if1 in
     let h = ltb-false (length (args .row .now)) (args .at + 2 * map-bytes .result) (sym (lacks .ensures) ∙ if1 .left) in
     (pre, omega arith, omega (arith, h, map-bytes .ensures))
-
-mul-t26 : tie.Need-mul-t26
-mul-t26 c =
-    let args = c .before .before .before .before .before .before .before .before .before .before .before .before .before .args in
-    let pre = c .before .before .before .before .before .before .before .before .before .before .before .before .before .pre in
-    let map-bytes = c .before .before .before .before .before .before .before .before .before .before .before .map-bytes in
-    omega (arith, map-bytes .ensures, map-few (args .n), pre)
-
-add-t27 : tie.Need-add-t27
-add-t27 c =
-    let args = c .before .before .before .before .before .before .before .before .before .before .before .before .before .args in
-    let good = c .before .before .before .before .before .before .before .before .before .before .before .before .before .good in
-    let map-bytes = c .before .before .before .before .before .before .before .before .before .before .before .map-bytes in
-    let lacks = c .before .before .before .before .before .before .before .before .before .before .lacks in
-    let if1 = c .before .before .before .before .before .before .before .before .before .if1 in
-    let h = ltb-false (length (args .row .now)) (args .at + 2 * map-bytes .result) (sym (lacks .ensures) ∙ if1 .left) in
-    let g = good .1 .1 .1 .1 .0 in
-    search needs
 
 returns-2 : tie.Need-returns-2
 returns-2 c =
@@ -174,7 +153,7 @@ returns-5 c =
     let p : at + map-bytes .result ≡ at + updateBytes cs = omega (arith, size) in
     let f : clear (chapterMarked (drop (at + updateBytes cs) row)) 12 (at + updateBytes cs) (numbered 0 cs) ≡ ok tt =
     ap (λ (q : ℕ). clear (chapterMarked (drop q row)) 12 q (numbered 0 cs)) (sym p) ∙ sym (check-chapters2 .ensures) ∙ ap toldMatch (enum-told2 .given .1) in
-    let q : at + 2 * map-bytes .result ≡ at + 2 * updateBytes cs = omega (arith, size) in
+    let q : at + map-bytes .result + map-bytes .result ≡ at + 2 * updateBytes cs = omega (arith, size) in
     ap ok q ∙ sym (update-well cs row at h u f (ap (λ (q : ℕ). clear (forceBroken (drop at row) (drop q row)) 13 q (numbered 0 cs)) (sym p) ∙ sym (check-force .ensures) ∙ ap toldMatch (c .enum-told3 .given .1)))
 
 pub open-update-spec : {M : Type 1} → statement M
@@ -185,19 +164,17 @@ open-update-spec =
     mul-lacks
     (λ c κs. search needs)
     returns
+    add-force
+    add-start
     check-chapters-requires
     (λ c. search needs)
     (λ c. search needs)
-    add-check-chapters
     check-chapters-requires-2
     (λ c. search needs)
     (λ c. search needs)
-    add-check-force
     check-force-requires
     (λ c. search needs)
     (λ c. search needs)
-    mul-t26
-    add-t27
     returns-2
     returns-3
     returns-4
