@@ -1,33 +1,37 @@
 -- The ways out of calls with a schema file.
 -- Assumes nothing.
 use Prim.Native.Nat.{ℕ, zero, suc, _≤_, _<_}
-use mathlib.Core.List.{List, [], _∷_, map}
-use mathlib.Core.Bool.{Bool, true, false}
+use mathlib.Core.List.{List, [], map}
 use mathlib.Core.Path.{_≡_, refl, sym, ap, _∙_}
 use native.Mathlib.Omega.{arith}
 use lib.ListN.{length, length-map, getD}
 use lib.Dec.{ltb}
 use borrow.Author.Tests.{ltb-true}
 use Rattle.wire.specs.declared.error.Error.{Error}
-use Rattle.wire.specs.declared.error.Input.{Input}
 use Rattle.wire.specs.declared.error.Input.the-variants as input
-use Rattle.wire.specs.Read.{Bytes, AreBytes, Read, ok, bad, refused, _>>=_, check, about, sized, limit}
-use Rattle.wire.proofs.Laws.{sized-over, sized-within}
+use Rattle.wire.specs.Read.{Bytes, AreBytes, Read, ok, bad, refused, _>>=_, check, about, sized}
 use Rattle.wire.proofs.Pieces.{bad-ok, bind-ok, check-ok, about-ok, ok-ok}
 use Rattle.column.specs.declared.column.Column.{Column}
 use Rattle.column.specs.declared.columns.Columns.{Columns}
 use Rattle.column.specs.Layout.{layout, columnsIn}
-use Rattle.schema.specs.Tree.{Tree, mostColumns}
+use Rattle.schema.specs.declared.file.Found.{Found}
+use Rattle.schema.specs.declared.file.Found.the-variants as found
+use Rattle.schema.specs.declared.file.ColumnsRead.{ColumnsRead}
+use Rattle.schema.specs.Tree.{mostColumns}
 use Rattle.schema.specs.Reader.{fileOf}
-use Rattle.schema.specs.Schemas.{Entry, Schema, schema, asColumn, schemasOf, readSchemas, schemaAt}
-use Rattle.schema.specs.Questions.{withSchema, alone, Selected, selected, selectedOf, columnsOf}
-use Rattle.schema.proofs.SchemaLists.{SchemaRange, SchemasRange, no-schema, a-schema, schemas-range}
+use Rattle.schema.specs.Schemas.{Schema, schema, asColumn, schemasOf, readSchemas, schemaAt}
+use Rattle.schema.specs.Questions.{withSchema, Selected, selected, selectedOf, columnsOf, toldFound}
+use Rattle.schema.proofs.SchemaLists.{SchemasRange, no-schema, a-schema, schemas-range}
 use Rattle.schema.proofs.Theorem.{file-of-iff}
 use Rattle.schema.proofs.Questions.{with-alone, answer-by}
-use Rattle.row.specs.Rows.{Answer, lookUp}
+use Rattle.row.specs.Rows.{lookUp, lookUpRow}
+use Rattle.row.specs.Updates.{current, currentRow}
 use Rattle.row.proofs.Arrays.{columns-laid}
+use Rattle.adtg.specs.InSchema.{both, inSchema, columnsBeside, Beside}
 use Rattle.adtg.specs.Rows.{lookUpIn}
+use Rattle.adtg.specs.Updates.{sizesOf, currentIn}
 
+-- a schema of a list whose schemas have few columns
 few-at : {ss : List Schema} → SchemasRange ss → (k : ℕ) → k < length ss → length (getD ss k (schema 0 []) .columns) ≤ mostColumns
 few-at no-schema k h = absurd (omega arith)
 few-at (a-schema r rs) zero h = r .count .few
@@ -49,45 +53,108 @@ few-columns b k x bytes h =
     let q : selected ss (s .columns) ≡ x = ok-ok e4 in
     rw (← q) (rw (← p) few)
 
-module _ (file : Bytes) (number : ℕ) (row : Bytes) (k : ℕ) where
-  pub look-file-large : limit < length file → lookUpIn file number row k ≡ bad 19 0 input.Schema
-  unfolding lookUpIn withSchema about
-  look-file-large h = simp (sized-over file h)
+-- all sizes, in their order
+abbrev pub allSizes : Bytes → Read (Unit {0}) → Read (Unit {0})
+allSizes file sizes = both (about input.Schema (sized file)) sizes
 
-  module _ (h : length file ≤ limit) where
-    pub look-row-large : limit < length row → lookUpIn file number row k ≡ bad 19 0 input.Row
-    unfolding lookUpIn withSchema about
-    look-row-large l = simp (sized-within file h, sized-over row l)
+-- A question in a schema, by the schema's columns.
+module _ (file : Bytes) (sizes : Read (Unit {0})) (number : ℕ) where
+  -- the schema, the sizes before it
+  abbrev selection : Read Selected
+  selection = allSizes file sizes >>= λ u. selectedOf file number
 
-    module _ (l : length row ≤ limit) where
-      alone-in : lookUpIn file number row k ≡ withSchema file alone number (λ schemas columns. lookUp (map asColumn columns) row k)
-      unfolding lookUpIn withSchema about
-      alone-in = simp (sized-within file h, sized-within row l)
+  -- a question of the selected schema
+  by-selection : {A : Type 0} (ask : List Column → Read A) → inSchema file sizes number ask ≡ (selection >>= λ x. ask (map asColumn (x .columns)))
+  unfolding withSchema
+  by-selection ask = go (about input.Schema (sized file)) sizes
+    where
+      go :
+          (r s : Read (Unit {0})) →
+          (r >>= λ u. s >>= λ v. about input.Schema (readSchemas file) >>= λ schemas. about input.SchemaNumber (schemaAt schemas number) >>= λ x. ask (map asColumn (x .columns)))
+          ≡ ((both r s >>= λ u. selectedOf file number) >>= λ x. ask (map asColumn (x .columns)))
+      go (ok u) (ok v) =
+          sym (with-alone file number (λ schemas columns. ask (map asColumn columns))) ∙ answer-by file number (λ schemas columns. ask (map asColumn columns))
+      go (ok u) (bad c o i) = refl
+      go (bad c o i) s = refl
 
-      by-selected : lookUpIn file number row k ≡ (selectedOf file number >>= λ x. lookUp (map asColumn (x .columns)) row k)
-      by-selected = alone-in ∙ answer-by file number (λ schemas columns. lookUp (map asColumn columns) row k)
+  -- its columns
+  columns-by : columnsBeside file sizes number ≡ (selection >>= λ x. ok (layout (map asColumn (x .columns))))
+  unfolding columnsBeside
+  columns-by = by-selection (λ columns. ok (layout columns))
 
-      columns-by : columnsOf file number ≡ (selectedOf file number >>= λ x. ok (layout (map asColumn (x .columns))))
-      unfolding columnsOf
-      columns-by = answer-by file number (λ schemas columns. ok (layout (map asColumn columns)))
+  -- a size that is not allowed
+  pub beside-large : (e : Error) → allSizes file sizes ≡ refused e → columnsBeside file sizes number ≡ refused e
+  beside-large e h = columns-by ∙ rw h refl
 
-      pub look-refused : (e : Error) → columnsOf file number ≡ refused e → lookUpIn file number row k ≡ refused e
-      look-refused e g = by-selected ∙ go (selectedOf file number) (sym columns-by ∙ g)
-        where
-          go :
-              (r : Read Selected) → (r >>= λ x. ok (layout (map asColumn (x .columns)))) ≡ refused e →
-              (r >>= λ x. lookUp (map asColumn (x .columns)) row k) ≡ refused e
-          go (ok x) q = absurd (bad-ok (sym q))
-          go (bad c o i) q = cc
+  -- all sizes are allowed
+  pub beside-sized : allSizes file sizes ≡ ok tt → columnsBeside file sizes number ≡ columnsOf file number
+  unfolding columnsOf
+  beside-sized h = columns-by ∙ rw h (sym (answer-by file number (λ schemas columns. ok (layout (map asColumn columns)))))
 
-      pub look-found : (c : Columns) → AreBytes file → columnsOf file number ≡ ok c → lookUpIn file number row k ≡ lookUp (columnsIn c) row k
-      look-found c bytes g = by-selected ∙ go (selectedOf file number) refl (sym columns-by ∙ g)
-        where
-          go :
-              (r : Read Selected) → selectedOf file number ≡ r → (r >>= λ x. ok (layout (map asColumn (x .columns)))) ≡ ok c →
-              (r >>= λ x. lookUp (map asColumn (x .columns)) row k) ≡ lookUp (columnsIn c) row k
-          go (ok x) e q =
-              let d : layout (map asColumn (x .columns)) ≡ c = ok-ok q in
-              let n : length (map asColumn (x .columns)) ≤ 64 = omega (arith, length-map (x .columns) asColumn, few-columns file number x bytes e) in
-              ap (λ (cs : List Column). lookUp cs row k) (sym (columns-laid (map asColumn (x .columns)) n)) ∙ ap (λ (c : Columns). lookUp (columnsIn c) row k) d
-          go (bad c o i) e q = absurd (bad-ok q)
+-- What was read of a file says the answer to every question.
+module _ {file : Bytes} {sizes : Read (Unit {0})} {number : ℕ} {r : ColumnsRead} (told : Beside file sizes number r) {A : Type 0} (ask : List Column → Read A) where
+  -- the selection, by what was found
+  by-found : (f : Found) → r .found ≡ f → (selection file sizes number >>= λ x. ok (layout (map asColumn (x .columns)))) ≡ toldFound f (r .columns)
+  by-found f h = sym (columns-by file sizes number) ∙ sym (told .answers) ∙ ap (λ (f : Found). toldFound f (r .columns)) h
+
+  -- where the columns are refused, so is the question
+  pub refused-in : {e : Error} → r .found ≡ found.Refused e → inSchema file sizes number ask ≡ refused e
+  refused-in {e} h = by-selection file sizes number ask ∙ go (selection file sizes number) (by-found (found.Refused e) h)
+    where
+      go :
+          (s : Read Selected) → (s >>= λ x. ok (layout (map asColumn (x .columns)))) ≡ refused e →
+          (s >>= λ x. ask (map asColumn (x .columns))) ≡ refused e
+      go (ok x) q = absurd (bad-ok (sym q))
+      go (bad c o i) q = cc
+
+  module _ (bytes : AreBytes file) (h : r .found ≡ found.Yes) where
+    -- where the columns are found, the sizes are allowed and the question is asked of the columns
+    asked : (sizes ≡ ok tt) × (inSchema file sizes number ask ≡ ask (columnsIn (r .columns)))
+    asked =
+        let (x, e, q) = bind-ok (selection file sizes number) (λ x. ok (layout (map asColumn (x .columns)))) (r .columns) (by-found found.Yes h) in
+        let (u, e1, e2) = bind-ok (allSizes file sizes) (λ u. selectedOf file number) x e in
+        let (v, e3, e4) = bind-ok (about input.Schema (sized file)) (λ u. sizes) u e1 in
+        let d : layout (map asColumn (x .columns)) ≡ r .columns = ok-ok q in
+        let n : length (map asColumn (x .columns)) ≤ 64 = omega (arith, length-map (x .columns) asColumn, few-columns file number x bytes e2) in (
+          e4,
+          by-selection file sizes number ask
+              ∙ ap (λ (s : Read Selected). s >>= λ x. ask (map asColumn (x .columns))) e
+              ∙ ap ask (sym (columns-laid (map asColumn (x .columns)) n))
+              ∙ ap (λ (c : Columns). ask (columnsIn c)) d,
+        )
+
+    -- the question is asked of the columns
+    pub found-in : inSchema file sizes number ask ≡ ask (columnsIn (r .columns))
+    found-in = asked .1
+
+    -- the sizes before it
+    pub found-sized : inSchema file sizes number ask ≡ (sizes >>= λ u. ask (columnsIn (r .columns)))
+    found-sized = found-in ∙ sym (ap (λ (s : Read (Unit {0})). s >>= λ u. ask (columnsIn (r .columns))) (asked .0))
+
+-- Column k of a row, for the calls that answer it or its part.
+module _ {file : Bytes} {number : ℕ} {r : ColumnsRead} (row : Bytes) (k : ℕ) (told : Beside file (about input.Row (sized row)) number r) where
+  -- refused with the columns
+  pub look-refused : {e : Error} → r .found ≡ found.Refused e → lookUpIn file number row k ≡ refused e
+  unfolding lookUpIn
+  look-refused h = refused-in told (λ columns. lookUp columns row k) h
+
+  -- found by the columns
+  pub look-found : AreBytes file → r .found ≡ found.Yes → lookUpRow (columnsIn (r .columns)) row k ≡ lookUpIn file number row k
+  unfolding lookUpIn lookUpRow
+  look-found bytes h = sym (found-sized told (λ columns. lookUp columns row k) bytes h)
+
+-- The current value of column k, for the calls that answer it or its part.
+module _ {file : Bytes} {number : ℕ} {r : ColumnsRead} (row update : Bytes) (k : ℕ) (told : Beside file (sizesOf row update) number r) where
+  -- refused with the columns
+  pub current-refused : {e : Error} → r .found ≡ found.Refused e → currentIn file number row update k ≡ refused e
+  unfolding currentIn
+  current-refused h = refused-in told (λ columns. current columns row update k) h
+
+  -- found by the columns
+  pub current-found : AreBytes file → r .found ≡ found.Yes → currentRow (columnsIn (r .columns)) row update k ≡ currentIn file number row update k
+  unfolding currentIn currentRow
+  current-found bytes h = sym (found-sized told (λ columns. current columns row update k) bytes h ∙ go (about input.Update (sized update)))
+    where
+      go : (s : Read (Unit {0})) → (both s (about input.Row (sized row)) >>= λ u. current (columnsIn (r .columns)) row update k) ≡ (s >>= λ u. about input.Row (sized row) >>= λ v. current (columnsIn (r .columns)) row update k)
+      go (ok u) = refl
+      go (bad c o i) = refl

@@ -177,13 +177,13 @@ opened-ok cs row at s h =
     let q : b ≡ s = ok-ok w in
     (omega (arith, p .ends, l), omega (arith, p .inside), z)
 
-chapter-field : {f : Field} → ok chapter ≡ ok (field f) → ⊥
+pub chapter-field : {f : Field} → ok chapter ≡ ok (field f) → ⊥
 chapter-field e = let z : _≡_ {A = ℕ} 0 1 = cc in omega arith
 
-null-field : {f : Field} → ok null ≡ ok (field f) → ⊥
+pub null-field : {f : Field} → ok null ≡ ok (field f) → ⊥
 null-field e = let z : _≡_ {A = ℕ} 0 1 = cc in omega arith
 
-field-field : {f g : Field} → ok (field f) ≡ ok (field g) → f ≡ g
+pub field-field : {f g : Field} → ok (field f) ≡ ok (field g) → f ≡ g
 field-field e = cc
 
 module _ (cs : List Column) (row : Bytes) (k : ℕ) where

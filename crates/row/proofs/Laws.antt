@@ -455,7 +455,7 @@ set-next map n = rw (add-one n)
 
 -- Columns by value.
 
-padded-at : (n : ℕ) (l : List ℕ) (i : ℕ) → i < n → getD (padded n l) i 0 ≡ getD l i 0
+pub padded-at : (n : ℕ) (l : List ℕ) (i : ℕ) → i < n → getD (padded n l) i 0 ≡ getD l i 0
 unfolding padded
 padded-at zero l i h = absurd (omega arith)
 padded-at (suc n) [] zero h = refl

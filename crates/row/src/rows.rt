@@ -42,7 +42,7 @@ pub enum LookUp {
 }
 
 // Whether a column with this bit has a field.
-fn is_present(column: Column, bit: usize, map: &[u8]) -> bool
+pub fn is_present(column: Column, bit: usize, map: &[u8]) -> bool
     ensures { λ r. ⌜ r ≡ present (now (map .entry)) (mark column bit) ⌝ }
 {
     if column.is_chapter() {

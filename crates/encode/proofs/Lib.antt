@@ -1,0 +1,11 @@
+pub mod Laws
+pub mod Arrays
+pub mod Maps
+pub mod Writing
+pub mod Pack
+pub mod Fields
+pub mod Walks
+pub mod Originals
+pub mod UpdateData
+pub mod Written
+pub mod Trips

@@ -1,0 +1,5 @@
+pub mod Entries
+pub mod Encoding
+pub mod Writers
+pub mod Trips
+pub mod Steps
