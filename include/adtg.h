@@ -7,7 +7,8 @@
  * the number of the error, and out[0] is the offset (the place) and out[1] the input that the error concerns. All other
  * numbers of `out` are 0.
  *
- * A writer writes at the start of its output or table and leaves what follows the piece; an error leaves all of it.
+ * A writer writes at the start of its output or table, a row writer from a place in its output on. It leaves all that lies
+ * outside the piece; an error leaves all of it.
  */
 #ifndef ADTG_H
 #define ADTG_H
@@ -29,10 +30,14 @@ enum adtg_error {
     ADTG_RANGE = 6,          /* a count, type, flags or maximum is out of range; offset: its start */
     ADTG_LIMIT = 7,          /* depth 5, or column 257 of a file; offset: the count */
     ADTG_REPEATED_ID = 8,    /* a child id is repeated; offset: its start */
+    ADTG_CHAPTER_BIT = 12,   /* the bit of a chapter is set in a map; offset: the byte of the first such bit */
+    ADTG_FORCE_NULL = 13,    /* null is forced without update or in no nullable column; offset: the byte of the bit */
+    ADTG_LENGTH = 14,        /* a length is over the maximum, or odd in wide text; offset: its prefix */
     ADTG_TRAILING = 15,      /* bytes after the end; offset: the first of them */
-    ADTG_CAPACITY = 16,      /* the output or table is too small; offset: the bytes or numbers needed */
-    ADTG_MISSING = 18,       /* no such schema, column or child id; offset: 0 */
-    ADTG_TOO_LARGE = 19      /* an input has more than 16,777,216 bytes; offset: 0 */
+    ADTG_CAPACITY = 16,      /* the output or table is too small; offset: the bytes or numbers that the piece needs */
+    ADTG_MISSING = 18,       /* no such schema, column, child id, place or entry; offset: 0 */
+    ADTG_TOO_LARGE = 19,     /* an input has more than 16,777,216 bytes; offset: 0 */
+    ADTG_ENTRY = 20          /* an entry can't stand in its column; offset: the column */
 };
 
 /* Inputs that an error can concern. */
@@ -40,9 +45,14 @@ enum adtg_input {
     ADTG_SINGLE = 0,         /* the call's one input */
     ADTG_SCHEMA = 1,         /* the schema file */
     ADTG_SCHEMA_NUMBER = 2,
+    ADTG_ROW = 3,            /* the original row */
+    ADTG_UPDATE = 4,         /* the update data */
     ADTG_COLUMN = 5,
     ADTG_TABLE = 7,
     ADTG_OUTPUT = 8,
+    ADTG_ENTRIES = 10,
+    ADTG_VALUES = 11,
+    ADTG_PLACE = 12,
     ADTG_NUMBERS = 13,
     ADTG_ORDER = 14,
     ADTG_UNICODE = 15,
@@ -51,6 +61,27 @@ enum adtg_input {
     ADTG_THIRD_STRING = 18,
     ADTG_ASYNC = 19,
     ADTG_CHILD_ID = 20
+};
+
+/* What a look-up answers. */
+enum adtg_kind {
+    ADTG_FIELD = 1,          /* a field, from its start to its end */
+    ADTG_NULL = 2,
+    ADTG_CHAPTER = 3,        /* the column is a chapter and has no field */
+    ADTG_UNCHANGED = 4       /* update data leave the column as it is */
+};
+
+/* Where a current value is taken from. */
+enum adtg_side {
+    ADTG_FROM_ROW = 1,
+    ADTG_FROM_UPDATE = 2
+};
+
+/* What a row writer is to write for a column. */
+enum adtg_entry {
+    ADTG_ENTRY_NULL = 0,     /* in an original row also for a chapter */
+    ADTG_ENTRY_VALUE = 1,    /* the bytes of the values from a start to an end */
+    ADTG_ENTRY_UNCHANGED = 2 /* in update data only, there also for a chapter */
 };
 
 /* Reads the header at the start of `bytes`.
@@ -104,6 +135,59 @@ uint32_t adtg_write_schema(const uint32_t *numbers, size_t count,
  * out: how many numbers. */
 uint32_t adtg_schema_numbers(const uint8_t *file, size_t length,
                              uint32_t *table, size_t capacity, uint64_t out[16]);
+
+/* The calls below take a schema file and the number of the schema that says the columns of the row. They check all sizes,
+ * then the file, then the schema number, then the rest.
+ *
+ * A field is told by its start and its end in the input that it lies in, and by the number of length prefixes read on the
+ * way to it, its own included; these three are 0 where there is no field. */
+
+/* Looks up a column in an original row, which starts at `row`. Bytes behind the field don't matter.
+ * out: kind (field, null, chapter), start, end, prefixes. */
+uint32_t adtg_look_up(const uint8_t *file, size_t file_length, size_t number,
+                      const uint8_t *row, size_t row_length, size_t column, uint64_t out[16]);
+
+/* Counts the fields of an original row by its presence map.
+ * out: number of fields. */
+uint32_t adtg_field_count(const uint8_t *file, size_t file_length, size_t number,
+                          const uint8_t *row, size_t row_length, uint64_t out[16]);
+
+/* Reads the original row at offset `at` of `row` in full.
+ * out: where it ends, an offset in `row`. */
+uint32_t adtg_row_end(const uint8_t *file, size_t file_length, size_t number,
+                      const uint8_t *row, size_t row_length, size_t at, uint64_t out[16]);
+
+/* Looks up a column in update data, which start at `update` and are read in full.
+ * out: kind (field, null, chapter, unchanged), start, end, prefixes. */
+uint32_t adtg_look_update(const uint8_t *file, size_t file_length, size_t number,
+                          const uint8_t *update, size_t update_length, size_t column, uint64_t out[16]);
+
+/* Reads the update data at offset `at` of `update` in full.
+ * out: where they end, an offset in `update`. */
+uint32_t adtg_update_end(const uint8_t *file, size_t file_length, size_t number,
+                         const uint8_t *update, size_t update_length, size_t at, uint64_t out[16]);
+
+/* Looks up the current value of a column: what the update data say, which are read in full, or the original row where they
+ * leave the column as it is.
+ * out: kind (field, null, chapter), side that answers, start, end, prefixes. */
+uint32_t adtg_current(const uint8_t *file, size_t file_length, size_t number,
+                      const uint8_t *row, size_t row_length,
+                      const uint8_t *update, size_t update_length, size_t column, uint64_t out[16]);
+
+/* Writes an original row into `output` from offset `place` on. `entries` are three numbers for each column: kind of the
+ * entry, start and end of a value in `values`; other kinds may have any start and end. `count` is the count of numbers.
+ * out: bytes written. */
+uint32_t adtg_write_original(const uint8_t *file, size_t file_length, size_t number,
+                             const uint32_t *entries, size_t count,
+                             const uint8_t *values, size_t values_length,
+                             size_t place, uint8_t *output, size_t capacity, uint64_t out[16]);
+
+/* Writes update data in the same way.
+ * out: bytes written. */
+uint32_t adtg_write_update(const uint8_t *file, size_t file_length, size_t number,
+                           const uint32_t *entries, size_t count,
+                           const uint8_t *values, size_t values_length,
+                           size_t place, uint8_t *output, size_t capacity, uint64_t out[16]);
 
 #ifdef __cplusplus
 }

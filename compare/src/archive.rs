@@ -1,9 +1,13 @@
 //! The calls of the proved archive, behind safe functions. All unsafe code of the project
 //! is here.
 
+use std::ops::Range;
+
 use crate::reading::header::Header;
 use crate::reading::options::Options;
+use crate::reading::row::Answer;
 use crate::reading::schema::{Counts, Description};
+use crate::reading::update::{Change, Current};
 use crate::reading::{Error, ErrorCode, Input};
 
 /// The numbers that every call fills.
@@ -11,6 +15,16 @@ type Out = [u64; 16];
 
 /// What a call finds in its `out`, so that numbers it leaves alone are noticed.
 const UNTOUCHED: Out = [0xA5A5_5A5A_DEAD_BEEF; 16];
+
+/// What a column has, as the first number of an answer.
+const FIELD: u64 = 1;
+const NULL: u64 = 2;
+const CHAPTER: u64 = 3;
+const UNCHANGED: u64 = 4;
+
+/// Which data a current value is taken from, as the second number of an answer.
+const FROM_ROW: u64 = 1;
+const FROM_UPDATE: u64 = 2;
 
 extern "C" {
     fn adtg_read_header(bytes: *const u8, len: usize, out: *mut Out) -> u32;
@@ -65,6 +79,87 @@ extern "C" {
         len: usize,
         table: *mut u32,
         table_len: usize,
+        out: *mut Out,
+    ) -> u32;
+    fn adtg_look_up(
+        file: *const u8,
+        file_len: usize,
+        number: usize,
+        row: *const u8,
+        row_len: usize,
+        column: usize,
+        out: *mut Out,
+    ) -> u32;
+    fn adtg_field_count(
+        file: *const u8,
+        file_len: usize,
+        number: usize,
+        row: *const u8,
+        row_len: usize,
+        out: *mut Out,
+    ) -> u32;
+    fn adtg_row_end(
+        file: *const u8,
+        file_len: usize,
+        number: usize,
+        row: *const u8,
+        row_len: usize,
+        at: usize,
+        out: *mut Out,
+    ) -> u32;
+    fn adtg_look_update(
+        file: *const u8,
+        file_len: usize,
+        number: usize,
+        update: *const u8,
+        update_len: usize,
+        column: usize,
+        out: *mut Out,
+    ) -> u32;
+    fn adtg_update_end(
+        file: *const u8,
+        file_len: usize,
+        number: usize,
+        update: *const u8,
+        update_len: usize,
+        at: usize,
+        out: *mut Out,
+    ) -> u32;
+    fn adtg_current(
+        file: *const u8,
+        file_len: usize,
+        number: usize,
+        row: *const u8,
+        row_len: usize,
+        update: *const u8,
+        update_len: usize,
+        column: usize,
+        out: *mut Out,
+    ) -> u32;
+    fn adtg_write_original(
+        file: *const u8,
+        file_len: usize,
+        number: usize,
+        entries: *const u32,
+        count: usize,
+        values: *const u8,
+        values_len: usize,
+        place: usize,
+        output: *mut u8,
+        output_len: usize,
+        out: *mut Out,
+    ) -> u32;
+    fn adtg_write_update(
+        file: *const u8,
+        file_len: usize,
+        number: usize,
+        entries: *const u32,
+        count: usize,
+        values: *const u8,
+        values_len: usize,
+        place: usize,
+        output: *mut u8,
+        output_len: usize,
         out: *mut Out,
     ) -> u32;
 }
@@ -247,6 +342,232 @@ pub fn schema_numbers(bytes: &[u8], table: &mut [u32]) -> Reply<usize> {
     decode(code, out, 1, one_size)
 }
 
+/// What the archive finds in one column of a row.
+pub fn look_up(file: &[u8], number: usize, row: &[u8], column: usize) -> Reply<Answer> {
+    let mut out = UNTOUCHED;
+    // SAFETY: as in `read_header`, for both slices.
+    let code = unsafe {
+        adtg_look_up(
+            file.as_ptr(),
+            file.len(),
+            number,
+            row.as_ptr(),
+            row.len(),
+            column,
+            &mut out,
+        )
+    };
+    decode(code, out, 4, found)
+}
+
+/// The archive's number of the fields of a row.
+pub fn field_count(file: &[u8], number: usize, row: &[u8]) -> Reply<usize> {
+    let mut out = UNTOUCHED;
+    // SAFETY: as in `look_up`.
+    let code = unsafe {
+        adtg_field_count(
+            file.as_ptr(),
+            file.len(),
+            number,
+            row.as_ptr(),
+            row.len(),
+            &mut out,
+        )
+    };
+    decode(code, out, 1, one_size)
+}
+
+/// Where the archive sees the end of the original row data at `at`.
+pub fn row_end(file: &[u8], number: usize, row: &[u8], at: usize) -> Reply<usize> {
+    let mut out = UNTOUCHED;
+    // SAFETY: as in `look_up`.
+    let code = unsafe {
+        adtg_row_end(
+            file.as_ptr(),
+            file.len(),
+            number,
+            row.as_ptr(),
+            row.len(),
+            at,
+            &mut out,
+        )
+    };
+    decode(code, out, 1, one_size)
+}
+
+/// What update data say about one column, for the archive.
+pub fn look_update(file: &[u8], number: usize, update: &[u8], column: usize) -> Reply<Change> {
+    let mut out = UNTOUCHED;
+    // SAFETY: as in `look_up`.
+    let code = unsafe {
+        adtg_look_update(
+            file.as_ptr(),
+            file.len(),
+            number,
+            update.as_ptr(),
+            update.len(),
+            column,
+            &mut out,
+        )
+    };
+    decode(code, out, 4, changed)
+}
+
+/// Where the archive sees the end of the update data at `at`.
+pub fn update_end(file: &[u8], number: usize, update: &[u8], at: usize) -> Reply<usize> {
+    let mut out = UNTOUCHED;
+    // SAFETY: as in `look_up`.
+    let code = unsafe {
+        adtg_update_end(
+            file.as_ptr(),
+            file.len(),
+            number,
+            update.as_ptr(),
+            update.len(),
+            at,
+            &mut out,
+        )
+    };
+    decode(code, out, 1, one_size)
+}
+
+/// The archive's current value of one column of a changed row.
+pub fn current(
+    file: &[u8],
+    number: usize,
+    row: &[u8],
+    update: &[u8],
+    column: usize,
+) -> Reply<Current> {
+    let mut out = UNTOUCHED;
+    // SAFETY: as in `look_up`.
+    let code = unsafe {
+        adtg_current(
+            file.as_ptr(),
+            file.len(),
+            number,
+            row.as_ptr(),
+            row.len(),
+            update.as_ptr(),
+            update.len(),
+            column,
+            &mut out,
+        )
+    };
+    decode(code, out, 5, current_value)
+}
+
+/// The archive's writer of original row data: bytes written from `place` on. Entries are three
+/// numbers each.
+pub fn write_original(
+    file: &[u8],
+    number: usize,
+    entries: &[u32],
+    values: &[u8],
+    place: usize,
+    output: &mut [u8],
+) -> Reply<usize> {
+    let mut out = UNTOUCHED;
+    // SAFETY: as in `write_schema`, for all slices.
+    let code = unsafe {
+        adtg_write_original(
+            file.as_ptr(),
+            file.len(),
+            number,
+            entries.as_ptr(),
+            entries.len(),
+            values.as_ptr(),
+            values.len(),
+            place,
+            output.as_mut_ptr(),
+            output.len(),
+            &mut out,
+        )
+    };
+    decode(code, out, 1, one_size)
+}
+
+/// The archive's writer of update data: bytes written from `place` on. Entries are three
+/// numbers each.
+pub fn write_update(
+    file: &[u8],
+    number: usize,
+    entries: &[u32],
+    values: &[u8],
+    place: usize,
+    output: &mut [u8],
+) -> Reply<usize> {
+    let mut out = UNTOUCHED;
+    // SAFETY: as in `write_original`.
+    let code = unsafe {
+        adtg_write_update(
+            file.as_ptr(),
+            file.len(),
+            number,
+            entries.as_ptr(),
+            entries.len(),
+            values.as_ptr(),
+            values.len(),
+            place,
+            output.as_mut_ptr(),
+            output.len(),
+            &mut out,
+        )
+    };
+    decode(code, out, 1, one_size)
+}
+
+/// What a row has in a column. The numbers of a field are 0 where there is none.
+fn found(numbers: &Out) -> Option<Answer> {
+    match *numbers {
+        [FIELD, start, end, prefixes, ..] => {
+            let (place, prefixes) = field(start, end, prefixes)?;
+            Some(Answer::Field { place, prefixes })
+        }
+        [NULL, 0, 0, 0, ..] => Some(Answer::Null),
+        [CHAPTER, 0, 0, 0, ..] => Some(Answer::Chapter),
+        _ => None,
+    }
+}
+
+/// What update data say about a column.
+fn changed(numbers: &Out) -> Option<Change> {
+    match *numbers {
+        [FIELD, start, end, prefixes, ..] => {
+            let (place, prefixes) = field(start, end, prefixes)?;
+            Some(Change::Field { place, prefixes })
+        }
+        [NULL, 0, 0, 0, ..] => Some(Change::Null),
+        [CHAPTER, 0, 0, 0, ..] => Some(Change::Chapter),
+        [UNCHANGED, 0, 0, 0, ..] => Some(Change::Unchanged),
+        _ => None,
+    }
+}
+
+/// A current value, and the data that it is taken from.
+fn current_value(numbers: &Out) -> Option<Current> {
+    match *numbers {
+        [FIELD, FROM_ROW, start, end, prefixes, ..] => {
+            let (place, prefixes) = field(start, end, prefixes)?;
+            Some(Current::Original(Answer::Field { place, prefixes }))
+        }
+        [FIELD, FROM_UPDATE, start, end, prefixes, ..] => {
+            let (place, prefixes) = field(start, end, prefixes)?;
+            Some(Current::Updated { place, prefixes })
+        }
+        [NULL, FROM_ROW, 0, 0, 0, ..] => Some(Current::Original(Answer::Null)),
+        [NULL, FROM_UPDATE, 0, 0, 0, ..] => Some(Current::Forced),
+        [CHAPTER, FROM_ROW, 0, 0, 0, ..] => Some(Current::Original(Answer::Chapter)),
+        _ => None,
+    }
+}
+
+/// The place of a field, and the prefixes read up to it.
+fn field(start: u64, end: u64, prefixes: u64) -> Option<(Range<usize>, usize)> {
+    let place = usize::try_from(start).ok()?..usize::try_from(end).ok()?;
+    Some((place, usize::try_from(prefixes).ok()?))
+}
+
 /// The one number of an answer that is a size or a count.
 fn one_size(numbers: &Out) -> Option<usize> {
     usize::try_from(numbers[0]).ok()
@@ -299,6 +620,44 @@ mod tests {
         assert_eq!(decode(0, numbers(&[9]), 1, one_size), Ok(9));
         let out = numbers(&[9, 1]);
         assert_eq!(decode(0, out, 1, one_size), malformed(0, out));
+    }
+
+    #[test]
+    fn a_column_has_a_field_or_zeros() {
+        let (place, prefixes) = (6..10, 1);
+        assert_eq!(
+            found(&numbers(&[1, 6, 10, 1])),
+            Some(Answer::Field { place, prefixes })
+        );
+        assert_eq!(found(&numbers(&[2])), Some(Answer::Null));
+        assert_eq!(found(&numbers(&[3])), Some(Answer::Chapter));
+        assert_eq!(changed(&numbers(&[2])), Some(Change::Null));
+        assert_eq!(changed(&numbers(&[4])), Some(Change::Unchanged));
+        for wrong in [&[0, 0][..], &[4, 0], &[2, 1], &[2, 0, 1], &[3, 0, 0, 1]] {
+            assert_eq!(found(&numbers(wrong)), None, "{wrong:?}");
+        }
+        for wrong in [&[0, 0][..], &[5, 0], &[4, 1], &[2, 0, 1]] {
+            assert_eq!(changed(&numbers(wrong)), None, "{wrong:?}");
+        }
+    }
+
+    #[test]
+    fn a_current_value_names_its_side() {
+        let (place, prefixes) = (6..10, 1);
+        let updated = Current::Updated {
+            place: place.clone(),
+            prefixes,
+        };
+        let original = Current::Original(Answer::Field { place, prefixes });
+        let value = |first: &[u64]| current_value(&numbers(first));
+        assert_eq!(value(&[1, 1, 6, 10, 1]), Some(original));
+        assert_eq!(value(&[1, 2, 6, 10, 1]), Some(updated));
+        assert_eq!(value(&[2, 1]), Some(Current::Original(Answer::Null)));
+        assert_eq!(value(&[2, 2]), Some(Current::Forced));
+        assert_eq!(value(&[3, 1]), Some(Current::Original(Answer::Chapter)));
+        for wrong in [&[2, 0][..], &[2, 3], &[3, 2], &[4, 1], &[2, 1, 0, 0, 1]] {
+            assert_eq!(value(wrong), None, "{wrong:?}");
+        }
     }
 
     #[test]

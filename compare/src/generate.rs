@@ -268,12 +268,12 @@ fn value_length(random: &mut Random, column: &Column) -> usize {
 }
 
 /// The bytes of an original row with these entries.
-pub fn original_row(schema: &[u8], number: u32, entries: &[Entry], values: &[u8]) -> Vec<u8> {
+pub fn original_row(schema: &[u8], number: usize, entries: &[Entry], values: &[u8]) -> Vec<u8> {
     written(|output| write_original(schema, number, entries, values, output, 0))
 }
 
 /// The bytes of update data with these entries.
-pub fn update_row(schema: &[u8], number: u32, entries: &[Entry], values: &[u8]) -> Vec<u8> {
+pub fn update_row(schema: &[u8], number: usize, entries: &[Entry], values: &[u8]) -> Vec<u8> {
     written(|output| write_update(schema, number, entries, values, output, 0))
 }
 
@@ -291,10 +291,9 @@ pub fn section(random: &mut Random, schema: &[u8], file: &SchemaFile) -> (Vec<u8
     let mut bytes = Vec::new();
     let mut table = Vec::new();
     for _ in 0..random.below(6) {
-        let index = random.below(file.schema_count());
-        let columns = file.columns_at(index);
-        let number = index as u32;
-        let id = file.id_at(index);
+        let number = random.below(file.schema_count());
+        let columns = file.columns_at(number);
+        let id = file.id_at(number);
         bytes.push(if id.is_some() { 0x87 } else { 0x07 });
         bytes.extend(id.map(u32::to_le_bytes).into_iter().flatten());
         let start = bytes.len() as u32;

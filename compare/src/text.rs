@@ -9,7 +9,7 @@ use crate::reading::options::Options;
 use crate::reading::plan::Plan;
 use crate::reading::row;
 use crate::reading::schema::{Counts, Description};
-use crate::reading::update::Current;
+use crate::reading::update::{Change, Current};
 use crate::reading::Error;
 
 /// The longest run of bytes that a message shows whole.
@@ -94,6 +94,17 @@ impl Text for row::Answer {
     }
 }
 
+impl Text for Change {
+    fn text(&self) -> String {
+        match self {
+            Change::Field { place, prefixes } => field("update", place, *prefixes),
+            Change::Null => "null".to_string(),
+            Change::Chapter => "chapter".to_string(),
+            Change::Unchanged => "unchanged".to_string(),
+        }
+    }
+}
+
 impl Text for Current {
     fn text(&self) -> String {
         match self {
@@ -104,7 +115,7 @@ impl Text for Current {
     }
 }
 
-/// A count: of fields, or of bytes written.
+/// A count, of fields or of bytes written, or where data end.
 impl Text for usize {
     fn text(&self) -> String {
         self.to_string()

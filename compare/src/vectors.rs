@@ -4,8 +4,8 @@ use std::fs;
 use std::path::{Path, PathBuf};
 use std::str::FromStr;
 
-use crate::archive;
-use crate::reading::encode::{write_original, write_update, Entry};
+use crate::archive::{self, Reply};
+use crate::reading::encode::{entry_numbers, write_original, write_update, Entry};
 use crate::reading::header::read_header;
 use crate::reading::options::read_options;
 use crate::reading::plan::make_plan;
@@ -17,7 +17,8 @@ use crate::reading::Error;
 use crate::text::{hex, parse_hex, Text};
 use crate::Totals;
 
-/// What both sides say about one line; `None` where the archive lacks the call.
+/// What both sides say about one line; `None` where the archive lacks the call or cannot be
+/// given the inputs.
 struct Answers {
     reading: String,
     archive: Option<String>,
@@ -187,7 +188,7 @@ fn look_up_line(inputs: &[&str]) -> Result<Answers, String> {
 }
 
 /// What the walk says about a column; the look-ups through a plan must say the same.
-fn walk_and_plan(schema: &[u8], number: u32, row: &[u8], column: u32) -> String {
+fn walk_and_plan(schema: &[u8], number: usize, row: &[u8], column: usize) -> String {
     let walk = look_up(schema, number, row, column);
     if let Ok(plan) = make_plan(schema, number) {
         let planned = plan.look_up(row, column);
@@ -203,8 +204,8 @@ fn walk_and_plan(schema: &[u8], number: u32, row: &[u8], column: u32) -> String 
     walk.text()
 }
 
-fn archive_look_up(_schema: &[u8], _number: u32, _row: &[u8], _column: u32) -> Option<String> {
-    None
+fn archive_look_up(schema: &[u8], number: usize, row: &[u8], column: usize) -> Option<String> {
+    Some(archive::look_up(schema, number, row, column).text())
 }
 
 fn field_count_line(inputs: &[&str]) -> Result<Answers, String> {
@@ -217,8 +218,8 @@ fn field_count_line(inputs: &[&str]) -> Result<Answers, String> {
     })
 }
 
-fn archive_field_count(_schema: &[u8], _number: u32, _row: &[u8]) -> Option<String> {
-    None
+fn archive_field_count(schema: &[u8], number: usize, row: &[u8]) -> Option<String> {
+    Some(archive::field_count(schema, number, row).text())
 }
 
 fn current_line(inputs: &[&str]) -> Result<Answers, String> {
@@ -232,13 +233,13 @@ fn current_line(inputs: &[&str]) -> Result<Answers, String> {
 }
 
 fn archive_current(
-    _schema: &[u8],
-    _number: u32,
-    _row: &[u8],
-    _update: &[u8],
-    _column: u32,
+    schema: &[u8],
+    number: usize,
+    row: &[u8],
+    update: &[u8],
+    column: usize,
 ) -> Option<String> {
-    None
+    Some(archive::current(schema, number, row, update, column).text())
 }
 
 fn make_plan_line(inputs: &[&str]) -> Result<Answers, String> {
@@ -250,7 +251,7 @@ fn make_plan_line(inputs: &[&str]) -> Result<Answers, String> {
     })
 }
 
-fn archive_make_plan(_schema: &[u8], _number: u32) -> Option<String> {
+fn archive_make_plan(_schema: &[u8], _number: usize) -> Option<String> {
     None
 }
 
@@ -265,7 +266,7 @@ fn fixed_place_line(inputs: &[&str]) -> Result<Answers, String> {
     })
 }
 
-fn archive_fixed_place(_schema: &[u8], _number: u32, _column: u32) -> Option<String> {
+fn archive_fixed_place(_schema: &[u8], _number: usize, _column: usize) -> Option<String> {
     None
 }
 
@@ -273,24 +274,16 @@ fn write_original_line(inputs: &[&str]) -> Result<Answers, String> {
     let row = RowToWrite::parse(inputs)?;
     Ok(Answers {
         reading: row.written_by(write_original),
-        archive: archive_write_original(&row),
+        archive: row.written_by_archive(archive::write_original),
     })
-}
-
-fn archive_write_original(_row: &RowToWrite) -> Option<String> {
-    None
 }
 
 fn write_update_line(inputs: &[&str]) -> Result<Answers, String> {
     let row = RowToWrite::parse(inputs)?;
     Ok(Answers {
         reading: row.written_by(write_update),
-        archive: archive_write_update(&row),
+        archive: row.written_by_archive(archive::write_update),
     })
-}
-
-fn archive_write_update(_row: &RowToWrite) -> Option<String> {
-    None
 }
 
 fn section_line(inputs: &[&str]) -> Result<Answers, String> {
@@ -312,7 +305,7 @@ fn archive_section(_schema: &[u8], _section: &[u8], _before: &[u32]) -> Option<S
 /// The inputs of a row writer.
 struct RowToWrite {
     schema: Vec<u8>,
-    number: u32,
+    number: usize,
     entries: Vec<Entry>,
     values: Vec<u8>,
     before: Vec<u8>,
@@ -320,7 +313,10 @@ struct RowToWrite {
 }
 
 /// A row writer of the reading.
-type RowWriter = fn(&[u8], u32, &[Entry], &[u8], &mut [u8], usize) -> Result<usize, Error>;
+type RowWriter = fn(&[u8], usize, &[Entry], &[u8], &mut [u8], usize) -> Result<usize, Error>;
+
+/// A row writer of the archive, whose entries are numbers.
+type ArchiveRowWriter = fn(&[u8], usize, &[u32], &[u8], usize, &mut [u8]) -> Reply<usize>;
 
 impl RowToWrite {
     fn parse(inputs: &[&str]) -> Result<RowToWrite, String> {
@@ -347,6 +343,21 @@ impl RowToWrite {
             self.place,
         );
         written_text(&written, &self.before, &output, self.place)
+    }
+
+    /// What a writer of the archive says and does, if it can be given the entries.
+    fn written_by_archive(&self, writer: ArchiveRowWriter) -> Option<String> {
+        let numbers = entry_numbers(&self.entries)?;
+        let mut output = self.before.clone();
+        let written = writer(
+            &self.schema,
+            self.number,
+            &numbers,
+            &self.values,
+            self.place,
+            &mut output,
+        );
+        Some(written_text(&written, &self.before, &output, self.place))
     }
 }
 

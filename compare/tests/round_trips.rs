@@ -4,23 +4,23 @@
 use compare::generate::{self, Shape};
 use compare::random::Random;
 use compare::reading::column::{Column, Kind};
-use compare::reading::encode::Entry;
+use compare::reading::encode::{entries_of, entry_numbers, Entry};
 use compare::reading::plan::make_plan;
-use compare::reading::row::{field_count, look_up, Answer};
+use compare::reading::row::{field_count, look_up, row_end, Answer};
 use compare::reading::schema::{
     read_schema, schema_column, schema_columns, schema_numbers, schema_of_child, Counts, SchemaFile,
 };
 use compare::reading::section::read_section;
-use compare::reading::update::{current, Current};
+use compare::reading::update::{current, look_update, update_end, Change, Current};
 use compare::reading::{Error, ErrorCode, Input};
 use compare::trials::damage;
 
 const ROUNDS: usize = 3_000;
 
 /// One of the file's schemas: its number and its columns.
-fn any_schema<'a>(random: &mut Random, file: &'a SchemaFile) -> (u32, &'a [Column]) {
-    let index = random.below(file.schema_count());
-    (index as u32, file.columns_at(index))
+fn any_schema<'a>(random: &mut Random, file: &'a SchemaFile) -> (usize, &'a [Column]) {
+    let number = random.below(file.schema_count());
+    (number, file.columns_at(number))
 }
 
 /// True if the answer is what the entry says; a field must hold the entry's value.
@@ -126,7 +126,7 @@ fn a_written_row_reads_back() {
         let row = generate::original_row(&schema, number, &entries, &values);
         let plan = make_plan(&schema, number).unwrap();
         for (index, entry) in entries.iter().enumerate() {
-            let answer = look_up(&schema, number, &row, index as u32).unwrap();
+            let answer = look_up(&schema, number, &row, index).unwrap();
             assert!(says(&answer, entry, &columns[index], &values, &row));
             if let Answer::Field {
                 place,
@@ -134,7 +134,7 @@ fn a_written_row_reads_back() {
             } = answer
             {
                 assert_eq!(count, prefixes(&columns[..=index], &entries[..=index]));
-                let fixed = plan.fixed_place(index as u32).unwrap();
+                let fixed = plan.fixed_place(index).unwrap();
                 assert!(fixed.is_none_or(|fixed| fixed == place.start));
             }
         }
@@ -143,6 +143,81 @@ fn a_written_row_reads_back() {
             .filter(|entry| **entry != Entry::Null)
             .count();
         assert_eq!(field_count(&schema, number, &row), Ok(fields));
+    }
+}
+
+#[test]
+fn a_written_update_reads_back() {
+    let mut random = Random::new(8);
+    for _ in 0..ROUNDS {
+        let (schema, file) = generate::schema_file(&mut random);
+        let (number, columns) = any_schema(&mut random, &file);
+        let (changes, values) = generate::update_entries(&mut random, columns);
+        let update = generate::update_row(&schema, number, &changes, &values);
+        for (index, change) in changes.iter().enumerate() {
+            let answer = look_update(&schema, number, &update, index).unwrap();
+            match (change, answer) {
+                (Entry::Unchanged, Change::Chapter) => assert!(columns[index].is_chapter()),
+                (Entry::Unchanged, Change::Unchanged) => assert!(!columns[index].is_chapter()),
+                (Entry::Null, Change::Null) => {}
+                (
+                    Entry::Value { start, end },
+                    Change::Field {
+                        place,
+                        prefixes: count,
+                    },
+                ) => {
+                    assert_eq!(update[place], values[*start..*end]);
+                    assert_eq!(count, prefixes(&columns[..=index], &changes[..=index]));
+                }
+                (change, answer) => panic!("{change:?} gives {answer:?}"),
+            }
+        }
+    }
+}
+
+#[test]
+fn written_data_end_where_they_were_written() {
+    let mut random = Random::new(9);
+    for _ in 0..ROUNDS {
+        let (schema, file) = generate::schema_file(&mut random);
+        let (number, columns) = any_schema(&mut random, &file);
+        let at = random.below(20);
+        let mut bytes = random.bytes(at);
+        let (entries, values) = generate::original_entries(&mut random, columns);
+        bytes.extend(generate::original_row(&schema, number, &entries, &values));
+        let middle = bytes.len();
+        let (changes, values) = generate::update_entries(&mut random, columns);
+        bytes.extend(generate::update_row(&schema, number, &changes, &values));
+        let end = bytes.len();
+        // Bytes behind the data do not matter; a missing one does, unless there are none.
+        assert_eq!(row_end(&schema, number, &bytes, at), Ok(middle));
+        assert_eq!(update_end(&schema, number, &bytes, middle), Ok(end));
+        if middle > at {
+            let truncated = Error::new(ErrorCode::Truncated, middle - 1, Input::Row);
+            let cut = &bytes[..middle - 1];
+            assert_eq!(row_end(&schema, number, cut, at), Err(truncated));
+        }
+        let truncated = Error::new(ErrorCode::Truncated, end - 1, Input::Update);
+        let cut = &bytes[..end - 1];
+        assert_eq!(update_end(&schema, number, cut, middle), Err(truncated));
+    }
+}
+
+#[test]
+fn numbers_of_entries_say_the_entries() {
+    let mut random = Random::new(10);
+    for _ in 0..ROUNDS {
+        let (_, file) = generate::schema_file(&mut random);
+        let (_, columns) = any_schema(&mut random, &file);
+        for (entries, _) in [
+            generate::original_entries(&mut random, columns),
+            generate::update_entries(&mut random, columns),
+        ] {
+            let numbers = entry_numbers(&entries).unwrap();
+            assert_eq!(numbers.len(), 3 * entries.len());
+            assert_eq!(entries_of(&numbers), entries);
+        }
     }
 }
 
@@ -157,7 +232,7 @@ fn the_plan_says_what_the_walk_says() {
         damage(&mut random, &mut row);
         let plan = make_plan(&schema, number).unwrap();
         let opened = plan.open(&row);
-        for column in 0..columns.len() as u32 + 2 {
+        for column in 0..columns.len() + 2 {
             let walk = look_up(&schema, number, &row, column);
             assert_eq!(plan.look_up(&row, column), walk);
             if let Ok(opened) = opened {
@@ -179,11 +254,10 @@ fn an_update_changes_what_it_carries() {
         let mut update = generate::update_row(&schema, number, &changes, &new_values);
         update.push(random.byte());
         for (index, change) in changes.iter().enumerate() {
-            let column = index as u32;
-            let answer = current(&schema, number, &row, &update, column).unwrap();
+            let answer = current(&schema, number, &row, &update, index).unwrap();
             match (change, answer) {
                 (Entry::Unchanged, Current::Original(answer)) => {
-                    assert_eq!(look_up(&schema, number, &row, column), Ok(answer));
+                    assert_eq!(look_up(&schema, number, &row, index), Ok(answer));
                 }
                 (Entry::Null, Current::Forced) => {}
                 (
@@ -237,7 +311,7 @@ fn damage_never_breaks_a_reader() {
         let (changes, values) = generate::update_entries(&mut random, columns);
         let mut update = generate::update_row(&schema, number, &changes, &values);
         damage(&mut random, &mut update);
-        for column in 0..columns.len() as u32 {
+        for column in 0..columns.len() {
             let _ = current(&schema, number, &[], &update, column);
         }
         let mut damaged = schema.clone();

@@ -2,12 +2,12 @@
 
 use compare::reading::encode::{write_original, write_update};
 use compare::reading::plan::make_plan;
-use compare::reading::row::{field_count, look_up, Answer};
+use compare::reading::row::{field_count, look_up, row_end, Answer};
 use compare::reading::schema::{
     read_schema, schema_column, schema_columns, schema_numbers, schema_of_child,
 };
 use compare::reading::section::read_section;
-use compare::reading::update::current;
+use compare::reading::update::{current, look_update, update_end};
 use compare::reading::{Error, ErrorCode, Input, MAX_INPUT};
 
 /// One column of one byte that is not nullable.
@@ -31,6 +31,12 @@ fn an_input_over_the_limit_is_named() {
     assert_eq!(look_up(&large, 9, &large, 9), over(Input::Schema));
     assert_eq!(look_up(&BAD, 9, &large, 9), over(Input::Row));
     assert_eq!(field_count(&BAD, 9, &large), over(Input::Row));
+    assert_eq!(row_end(&large, 9, &large, 9), over(Input::Schema));
+    assert_eq!(row_end(&BAD, 9, &large, 9), over(Input::Row));
+    assert_eq!(look_update(&large, 9, &large, 9), over(Input::Schema));
+    assert_eq!(look_update(&BAD, 9, &large, 9), over(Input::Update));
+    assert_eq!(update_end(&large, 9, &large, 9), over(Input::Schema));
+    assert_eq!(update_end(&BAD, 9, &large, 9), over(Input::Update));
     assert_eq!(current(&large, 9, &large, &large, 9), over(Input::Schema));
     assert_eq!(current(&BAD, 9, &large, &large, 9), over(Input::Update));
     assert_eq!(current(&BAD, 9, &large, &[], 9), over(Input::Row));
@@ -55,6 +61,8 @@ fn an_input_at_the_limit_is_read() {
         prefixes: 0,
     };
     assert_eq!(look_up(&SCHEMA, 0, &large, 0), Ok(field));
+    assert_eq!(row_end(&SCHEMA, 0, &large, MAX_INPUT - 1), Ok(MAX_INPUT));
+    assert_eq!(update_end(&SCHEMA, 0, &large, 7), Ok(9));
     // A schema file of one column, then bytes that do not belong to it.
     large[..3].copy_from_slice(&SCHEMA);
     let trailing = Error::new(ErrorCode::Trailing, 3, Input::Only);

@@ -17,12 +17,53 @@ pub enum Entry {
         start: usize,
         end: usize,
     },
+    /// Numbers that say none of these; always refused.
+    Unknown,
+}
+
+/// Numbers that say one entry: its kind, and start and end of a value.
+pub const ENTRY_NUMBERS: usize = 3;
+
+/// Kinds of entries as numbers.
+pub const NULL: u32 = 0;
+pub const VALUE: u32 = 1;
+pub const UNCHANGED: u32 = 2;
+
+/// The entries that a list of numbers says. Start and end matter for a value alone; too few
+/// numbers at the end of the list are no entry.
+pub fn entries_of(numbers: &[u32]) -> Vec<Entry> {
+    let entry = |numbers: &[u32]| match *numbers {
+        [NULL, _, _] => Entry::Null,
+        [VALUE, start, end] => Entry::Value {
+            start: start as usize,
+            end: end as usize,
+        },
+        [UNCHANGED, _, _] => Entry::Unchanged,
+        _ => Entry::Unknown,
+    };
+    numbers.chunks(ENTRY_NUMBERS).map(entry).collect()
+}
+
+/// The list of numbers that says these entries, if there is one.
+pub fn entry_numbers(entries: &[Entry]) -> Option<Vec<u32>> {
+    let mut numbers = Vec::with_capacity(ENTRY_NUMBERS * entries.len());
+    for entry in entries {
+        numbers.extend(match *entry {
+            Entry::Null => [NULL, 0, 0],
+            Entry::Unchanged => [UNCHANGED, 0, 0],
+            Entry::Value { start, end } => {
+                [VALUE, u32::try_from(start).ok()?, u32::try_from(end).ok()?]
+            }
+            Entry::Unknown => return None,
+        });
+    }
+    Some(numbers)
 }
 
 /// Writes original row data into `output` from `place` on and answers its size.
 pub fn write_original(
     schema: &[u8],
-    number: u32,
+    number: usize,
     entries: &[Entry],
     values: &[u8],
     output: &mut [u8],
@@ -58,7 +99,7 @@ pub fn write_original(
 /// Writes update row data into `output` from `place` on and answers its size.
 pub fn write_update(
     schema: &[u8],
-    number: u32,
+    number: usize,
     entries: &[Entry],
     values: &[u8],
     output: &mut [u8],
@@ -78,7 +119,7 @@ pub fn write_update(
     let (mut update, mut force) = (0, 0);
     for (index, entry) in entries.iter().enumerate() {
         match entry {
-            Entry::Unchanged => {}
+            Entry::Unchanged | Entry::Unknown => {}
             Entry::Null => {
                 update |= top_bit(index);
                 force |= top_bit(index);
@@ -94,8 +135,8 @@ pub fn write_update(
     Ok(size)
 }
 
-/// Error 18 for a place past the output, for a wrong number of entries, and for an entry
-/// outside the values.
+/// Error 18 for a place past the output, for a wrong number of entries, and for an entry that
+/// is none or lies outside the values.
 fn check_arguments(
     columns: &[Column],
     entries: &[Entry],
@@ -109,6 +150,7 @@ fn check_arguments(
     let within = |entry: &Entry| match *entry {
         Entry::Null | Entry::Unchanged => true,
         Entry::Value { start, end } => start <= end && end <= values.len(),
+        Entry::Unknown => false,
     };
     if entries.len() != columns.len() || !entries.iter().all(within) {
         return Err(Error::new(ErrorCode::NoSuch, 0, Input::Entries));
@@ -120,7 +162,7 @@ fn check_arguments(
 fn original_size(column: &Column, entry: &Entry) -> Option<usize> {
     match entry {
         Entry::Null => (column.nullable || column.is_chapter()).then_some(0),
-        Entry::Unchanged => None,
+        Entry::Unchanged | Entry::Unknown => None,
         Entry::Value { start, end } => value_size(column, end - start),
     }
 }
@@ -131,6 +173,7 @@ fn update_size(column: &Column, entry: &Entry) -> Option<usize> {
         Entry::Null => (column.nullable && !column.is_chapter()).then_some(0),
         Entry::Unchanged => Some(0),
         Entry::Value { start, end } => value_size(column, end - start),
+        Entry::Unknown => None,
     }
 }
 
@@ -237,6 +280,38 @@ mod tests {
         assert_eq!(missing, wrong(ErrorCode::NoSuch, 0, Input::Entries));
         let unchanged = original(&[Entry::Unchanged, FOUR], &mut [], 0);
         assert_eq!(unchanged, wrong(ErrorCode::Entry, 0, Input::Entries));
+    }
+
+    #[test]
+    fn entries_are_three_numbers_each() {
+        let entries = [Entry::Null, Entry::Unchanged, value(5, 7)];
+        let numbers = entry_numbers(&entries).unwrap();
+        assert_eq!(numbers, [0, 0, 0, 2, 0, 0, 1, 5, 7]);
+        assert_eq!(entries_of(&numbers), entries);
+        // The ends of what is no value do not matter.
+        assert_eq!(entries_of(&[0, 9, 1, 2, 9, 1]), entries[..2]);
+        let outside = u32::MAX as usize + 1;
+        assert_eq!(entry_numbers(&[value(0, outside)]), None);
+        assert_eq!(entry_numbers(&[Entry::Unknown]), None);
+    }
+
+    #[test]
+    fn numbers_that_are_no_entry_are_refused_before_entries_that_cannot_stand() {
+        let refused = wrong(ErrorCode::NoSuch, 0, Input::Entries);
+        for numbers in [
+            &[2, 0, 0, 3, 0, 0][..],
+            &[2, 0, 0, u32::MAX, 0, 0],
+            &[2, 0, 0, 0, 0],
+            &[2, 0, 0, 0],
+            &[2, 0, 0, 0, 0, 0, 0],
+            &[2, 0, 0],
+            &[],
+        ] {
+            assert_eq!(original(&entries_of(numbers), &mut [], 0), refused);
+            assert_eq!(update(&entries_of(numbers), &mut []), refused);
+        }
+        let cannot_stand = original(&entries_of(&[2, 0, 0, 0, 0, 0]), &mut [], 0);
+        assert_eq!(cannot_stand, wrong(ErrorCode::Entry, 0, Input::Entries));
     }
 
     #[test]

@@ -37,14 +37,14 @@ pub struct OpenRow<'a> {
 }
 
 /// The plan of one schema of a file.
-pub fn make_plan(schema: &[u8], number: u32) -> Result<Plan, Error> {
+pub fn make_plan(schema: &[u8], number: usize) -> Result<Plan, Error> {
     check_size(schema, Input::Schema)?;
     let file = SchemaFile::read(schema, Input::Schema)?;
     Ok(Plan::of(file.columns(number)?))
 }
 
 /// Error 17 unless the plan is the one that this schema would have.
-pub fn check_plan(plan: &Plan, schema: &[u8], number: u32) -> Result<(), Error> {
+pub fn check_plan(plan: &Plan, schema: &[u8], number: usize) -> Result<(), Error> {
     if *plan != make_plan(schema, number)? {
         return Err(Error::new(ErrorCode::PlanMismatch, 0, Input::Plan));
     }
@@ -102,7 +102,7 @@ impl Plan {
 
     /// Where the field of a column starts in every row that has it; `None` if that depends on
     /// the row.
-    pub fn fixed_place(&self, column: u32) -> Result<Option<usize>, Error> {
+    pub fn fixed_place(&self, column: usize) -> Result<Option<usize>, Error> {
         let planned = self.column(column)?;
         if planned.column.is_chapter() || planned.stops_before > 0 {
             return Ok(None);
@@ -112,7 +112,7 @@ impl Plan {
     }
 
     /// The field of one column in a row, found by the plan.
-    pub fn look_up(&self, row: &[u8], column: u32) -> Result<Answer, Error> {
+    pub fn look_up(&self, row: &[u8], column: usize) -> Result<Answer, Error> {
         check_size(row, Input::Row)?;
         let planned = self.column(column)?;
         self.opened(row)?.find(self, planned)
@@ -131,16 +131,16 @@ impl Plan {
     }
 
     /// The column that the caller names, or error 18.
-    fn column(&self, column: u32) -> Result<&PlanColumn, Error> {
+    fn column(&self, column: usize) -> Result<&PlanColumn, Error> {
         self.columns()
-            .get(column as usize)
+            .get(column)
             .ok_or(Error::new(ErrorCode::NoSuch, 0, Input::Column))
     }
 }
 
 impl OpenRow<'_> {
     /// The field of one column, found by the plan that the row was opened with.
-    pub fn look_up(&self, plan: &Plan, column: u32) -> Result<Answer, Error> {
+    pub fn look_up(&self, plan: &Plan, column: usize) -> Result<Answer, Error> {
         self.find(plan, plan.column(column)?)
     }
 

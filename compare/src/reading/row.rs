@@ -19,17 +19,17 @@ pub enum Answer {
 }
 
 /// The field of one column in a row, found by the walk.
-pub fn look_up(schema: &[u8], number: u32, row: &[u8], column: u32) -> Result<Answer, Error> {
+pub fn look_up(schema: &[u8], number: usize, row: &[u8], column: usize) -> Result<Answer, Error> {
     check_size(schema, Input::Schema)?;
     check_size(row, Input::Row)?;
     let file = SchemaFile::read(schema, Input::Schema)?;
     let columns = file.columns(number)?;
-    let index = column_index(columns, column)?;
-    look_up_in(columns, row, index)
+    check_column(columns, column)?;
+    look_up_in(columns, row, column)
 }
 
 /// The number of fields that a row has by its presence map.
-pub fn field_count(schema: &[u8], number: u32, row: &[u8]) -> Result<usize, Error> {
+pub fn field_count(schema: &[u8], number: usize, row: &[u8]) -> Result<usize, Error> {
     check_size(schema, Input::Schema)?;
     check_size(row, Input::Row)?;
     let file = SchemaFile::read(schema, Input::Schema)?;
@@ -42,13 +42,21 @@ pub fn field_count(schema: &[u8], number: u32, row: &[u8]) -> Result<usize, Erro
     Ok(always + presence.count_ones() as usize)
 }
 
-/// The index of a column that the caller names, or error 18.
-pub(super) fn column_index(columns: &[Column], column: u32) -> Result<usize, Error> {
-    let index = column as usize;
-    if index >= columns.len() {
+/// Where the original row data that start at `at` of the row end, all their fields checked.
+pub fn row_end(schema: &[u8], number: usize, row: &[u8], at: usize) -> Result<usize, Error> {
+    check_size(schema, Input::Schema)?;
+    check_size(row, Input::Row)?;
+    let file = SchemaFile::read(schema, Input::Schema)?;
+    let columns = file.columns(number)?;
+    row_end_in(columns, &PresenceMap::of(columns), row, at, Input::Row)
+}
+
+/// Error 18 if there is no column of this number.
+pub(super) fn check_column(columns: &[Column], column: usize) -> Result<(), Error> {
+    if column >= columns.len() {
         return Err(Error::new(ErrorCode::NoSuch, 0, Input::Column));
     }
-    Ok(index)
+    Ok(())
 }
 
 /// The field of the column at `index`, which must be under the count.
@@ -70,8 +78,8 @@ pub(super) fn look_up_in(columns: &[Column], row: &[u8], index: usize) -> Result
     walk.find(asked)
 }
 
-/// Where the row that starts at `at` ends, all its fields checked.
-pub(super) fn row_end(
+/// Where the row that starts at `at` of an input ends, all its fields checked.
+pub(super) fn row_end_in(
     columns: &[Column],
     map: &PresenceMap,
     bytes: &[u8],
@@ -198,7 +206,8 @@ impl<'a> Walk<'a> {
 #[inline]
 pub(super) fn bits_at(bytes: &[u8], at: usize, size: usize, input: Input) -> Result<u64, Error> {
     let map = bytes
-        .get(at..at + size)
+        .get(at..)
+        .and_then(|rest| rest.get(..size))
         .ok_or(Error::truncated(bytes, input))?;
     let mut bits = 0;
     for byte in map {
@@ -273,6 +282,35 @@ mod tests {
         }
         assert_eq!(look_up(&schema, 0, &[0], 0), wrong(ErrorCode::Truncated, 1));
         assert_eq!(look_up(&schema, 0, &[0], 1), Ok(Answer::Chapter));
+    }
+
+    #[test]
+    fn a_row_ends_behind_its_last_field() {
+        let row = [9, 0x7F, 5, 0, 0, 0, 0x2A, 9];
+        assert_eq!(row_end(&S, 0, &row, 1), Ok(7));
+        // All fields are looked at, and offsets are those of the whole input.
+        let refused = |row: &[u8], at, code, offset| {
+            let error = Error::new(code, offset, Input::Row);
+            assert_eq!(row_end(&S, 0, row, at), Err(error));
+        };
+        refused(&row[..6], 1, ErrorCode::Truncated, 6);
+        refused(&[9, 0x80, 5, 0, 0, 0, 3], 1, ErrorCode::Length, 6);
+        for at in [8, 9, 1 << 32, usize::MAX] {
+            refused(&row, at, ErrorCode::Truncated, 8);
+        }
+        let chapter = [2, 0x11, 0, 0x88, 1, 1, 7, 1, 0x11, 0];
+        let bit = Error::new(ErrorCode::ChapterBit, 2, Input::Row);
+        assert_eq!(row_end(&chapter, 0, &[0, 0, 0x80], 2), Err(bit));
+    }
+
+    #[test]
+    fn a_row_of_no_bytes_needs_a_place_in_the_input() {
+        let chapters = [1, 0x88, 1, 0, 7, 1, 0x11, 0];
+        for at in [0, 1] {
+            assert_eq!(row_end(&chapters, 0, &[9], at), Ok(at));
+        }
+        let behind = Error::new(ErrorCode::Truncated, 1, Input::Row);
+        assert_eq!(row_end(&chapters, 0, &[9], 2), Err(behind));
     }
 
     #[test]

@@ -155,8 +155,8 @@ impl SchemaFile {
     }
 
     /// The columns of the schema with this number, or error 18.
-    pub fn columns(&self, number: u32) -> Result<&[Column], Error> {
-        let index = self.index_of_number(number as usize)?;
+    pub fn columns(&self, number: usize) -> Result<&[Column], Error> {
+        let index = self.index_of_number(number)?;
         Ok(self.columns_at(index))
     }
 

@@ -2,9 +2,9 @@
 //! that they make.
 
 use super::column::Column;
-use super::row::{row_end, PresenceMap};
+use super::row::{row_end_in, PresenceMap};
 use super::schema::SchemaFile;
-use super::update::{update_end, UpdateMaps};
+use super::update::{update_end_in, UpdateMaps};
 use super::{check_size, Error, ErrorCode, Input};
 
 /// Tokens of the elements.
@@ -166,7 +166,7 @@ impl<'a> Elements<'a> {
     /// Where the original data that starts at `at` under this schema ends.
     fn original_end(&self, schema: usize, at: usize) -> Result<usize, Error> {
         let form = &self.forms[schema];
-        row_end(
+        row_end_in(
             form.columns,
             &form.presence,
             self.section,
@@ -178,7 +178,7 @@ impl<'a> Elements<'a> {
     /// Where the update data that starts at `at` under this schema ends.
     fn changes_end(&self, schema: usize, at: usize) -> Result<usize, Error> {
         let form = &self.forms[schema];
-        update_end(form.columns, &form.update, self.section, at, Input::Section)
+        update_end_in(form.columns, &form.update, self.section, at, Input::Section)
     }
 
     /// The schema with this id; children of one table often follow each other.

@@ -1,12 +1,26 @@
-//! Update row data: the update map, the force-null map and the fields that change; and the
-//! current value of a changed row.
+//! Update row data: the update map, the force-null map and the fields that change; look-ups
+//! in them, and the current value of a changed row.
 
 use std::ops::Range;
 
 use super::column::Column;
-use super::row::{bits_at, column_index, first_byte, look_up_in, top_bit, top_bits, Answer, Walk};
+use super::row::{bits_at, check_column, first_byte, look_up_in, top_bit, top_bits, Answer, Walk};
 use super::schema::SchemaFile;
 use super::{check_size, Error, ErrorCode, Input};
+
+/// What update data say about one column.
+#[derive(Clone, Debug, PartialEq, Eq)]
+pub enum Change {
+    /// A new field: its place in the update data, and the prefixes read up to it.
+    Field {
+        place: Range<usize>,
+        prefixes: usize,
+    },
+    /// Null by force.
+    Null,
+    Chapter,
+    Unchanged,
+}
 
 /// The value that a column of a changed row has now.
 #[derive(Clone, Debug, PartialEq, Eq)]
@@ -22,20 +36,55 @@ pub enum Current {
     Original(Answer),
 }
 
+/// What update data say about one column, all of them checked.
+pub fn look_update(
+    schema: &[u8],
+    number: usize,
+    update: &[u8],
+    column: usize,
+) -> Result<Change, Error> {
+    check_size(schema, Input::Schema)?;
+    check_size(update, Input::Update)?;
+    let file = SchemaFile::read(schema, Input::Schema)?;
+    let columns = file.columns(number)?;
+    check_column(columns, column)?;
+    look_update_in(columns, update, column)
+}
+
+/// Where the update data that start at `at` of `update` end, all of them checked.
+pub fn update_end(schema: &[u8], number: usize, update: &[u8], at: usize) -> Result<usize, Error> {
+    check_size(schema, Input::Schema)?;
+    check_size(update, Input::Update)?;
+    let file = SchemaFile::read(schema, Input::Schema)?;
+    let columns = file.columns(number)?;
+    update_end_in(columns, &UpdateMaps::of(columns), update, at, Input::Update)
+}
+
 /// The current value of one column of a changed row.
 pub fn current(
     schema: &[u8],
-    number: u32,
+    number: usize,
     row: &[u8],
     update: &[u8],
-    column: u32,
+    column: usize,
 ) -> Result<Current, Error> {
     check_size(schema, Input::Schema)?;
     check_size(update, Input::Update)?;
     check_size(row, Input::Row)?;
     let file = SchemaFile::read(schema, Input::Schema)?;
     let columns = file.columns(number)?;
-    let index = column_index(columns, column)?;
+    check_column(columns, column)?;
+    match look_update_in(columns, update, column)? {
+        Change::Field { place, prefixes } => Ok(Current::Updated { place, prefixes }),
+        Change::Null => Ok(Current::Forced),
+        Change::Chapter | Change::Unchanged => {
+            look_up_in(columns, row, column).map(Current::Original)
+        }
+    }
+}
+
+/// What the update says about the column at `index`, which must be under the count.
+fn look_update_in(columns: &[Column], update: &[u8], index: usize) -> Result<Change, Error> {
     let maps = UpdateMaps::of(columns).read(update, 0, Input::Update)?;
     let mut asked = None;
     walk_update(
@@ -45,21 +94,22 @@ pub fn current(
         Input::Update,
         |at, place, prefixes| {
             if at == index {
-                asked = Some((place, prefixes));
+                asked = Some(Change::Field { place, prefixes });
             }
         },
     )?;
-    if maps.force & top_bit(index) != 0 {
-        return Ok(Current::Forced);
-    }
-    match asked {
-        Some((place, prefixes)) => Ok(Current::Updated { place, prefixes }),
-        None => look_up_in(columns, row, index).map(Current::Original),
-    }
+    let without_field = if columns[index].is_chapter() {
+        Change::Chapter
+    } else if maps.force & top_bit(index) != 0 {
+        Change::Null
+    } else {
+        Change::Unchanged
+    };
+    Ok(asked.unwrap_or(without_field))
 }
 
-/// Where the update data that starts at `at` ends, all of it checked.
-pub(super) fn update_end(
+/// Where the update data that start at `at` of an input end, all of them checked.
+pub(super) fn update_end_in(
     columns: &[Column],
     form: &UpdateMaps,
     bytes: &[u8],
@@ -165,7 +215,7 @@ mod tests {
     /// Two nullable bytes, a byte that is not nullable, and a nullable chapter.
     const SCHEMA: [u8; 14] = [4, 0x11, 1, 0x11, 1, 0x11, 0, 0x88, 1, 1, 7, 1, 0x11, 0];
 
-    fn ask(row: &[u8], update: &[u8], column: u32) -> Result<Current, Error> {
+    fn ask(row: &[u8], update: &[u8], column: usize) -> Result<Current, Error> {
         current(&SCHEMA, 0, row, update, column)
     }
 
@@ -210,5 +260,52 @@ mod tests {
         assert_eq!(bit, wrong(ErrorCode::ChapterBit, 0, Input::Row));
         let chapter = ask(&[0x00], &update, 3);
         assert_eq!(chapter, Ok(Current::Original(Answer::Chapter)));
+    }
+
+    #[test]
+    fn an_update_says_what_it_does_to_each_column() {
+        let update = [0xA0, 0x80, 0x2B, 9];
+        let says = |column| look_update(&SCHEMA, 0, &update, column);
+        assert_eq!(says(0), Ok(Change::Null));
+        assert_eq!(says(1), Ok(Change::Unchanged));
+        let field = Change::Field {
+            place: 2..3,
+            prefixes: 0,
+        };
+        assert_eq!(says(2), Ok(field));
+        assert_eq!(says(3), Ok(Change::Chapter));
+        let no_column = Error::new(ErrorCode::NoSuch, 0, Input::Column);
+        assert_eq!(says(4), Err(no_column));
+        // Fields behind the column asked for are looked at too.
+        let cut = Error::new(ErrorCode::Truncated, 2, Input::Update);
+        assert_eq!(look_update(&SCHEMA, 0, &update[..2], 0), Err(cut));
+    }
+
+    #[test]
+    fn prefixes_of_an_update_are_counted_in_it() {
+        // Three nullable texts of at most 5.
+        let schema = [3, 0x81, 1, 1, 5, 0x81, 1, 1, 5, 0x81, 1, 1, 5];
+        let update = [0xA0, 0x00, 1, 0x61, 0];
+        let field = |place, prefixes| Ok(Change::Field { place, prefixes });
+        assert_eq!(look_update(&schema, 0, &update, 0), field(3..4, 1));
+        assert_eq!(look_update(&schema, 0, &update, 2), field(5..5, 2));
+        assert_eq!(update_end(&schema, 0, &update, 0), Ok(5));
+    }
+
+    #[test]
+    fn update_data_end_behind_their_last_field() {
+        let update = [9, 0xA0, 0x80, 0x2B, 9];
+        assert_eq!(update_end(&SCHEMA, 0, &update, 1), Ok(4));
+        // Offsets are those of the whole input.
+        let refused = |update: &[u8], at, code, offset| {
+            let error = Error::new(code, offset, Input::Update);
+            assert_eq!(update_end(&SCHEMA, 0, update, at), Err(error));
+        };
+        refused(&update[..3], 1, ErrorCode::Truncated, 3);
+        refused(&[9, 0x00, 0x10], 1, ErrorCode::ChapterBit, 2);
+        refused(&[9, 0x00, 0x80], 1, ErrorCode::ForceRule, 2);
+        for at in [4, 5, 6, 1 << 32, usize::MAX] {
+            refused(&update, at, ErrorCode::Truncated, 5);
+        }
     }
 }

@@ -3,13 +3,17 @@
 
 mod header;
 mod options;
+mod row_data;
+mod row_writers;
+mod rows;
 mod schema;
 
 use std::time::{Duration, Instant};
 
+use crate::archive::Reply;
 use crate::random::Random;
 use crate::reading::{Error, ErrorCode, MAX_INPUT};
-use crate::text::shown;
+use crate::text::{agree, shown, Text};
 use crate::Totals;
 
 /// How long a run goes on.
@@ -29,7 +33,7 @@ const BETWEEN_LOOKS: u64 = 64;
 type Trial = fn(&mut Random, &mut Run);
 
 /// Trials of one case each.
-const SHORT: [Trial; 8] = [
+const SHORT: [Trial; 13] = [
     header::read_case,
     header::write_case,
     header::write_short_case,
@@ -38,7 +42,20 @@ const SHORT: [Trial; 8] = [
     schema::read_case,
     schema::write_case,
     schema::numbers_case,
+    rows::field_count_case,
+    rows::row_end_case,
+    rows::update_end_case,
+    row_writers::original_case,
+    row_writers::update_case,
 ];
+
+/// Trials that ask one row for all its columns, once in `BETWEEN_ROWS`.
+const ROWS: [Trial; 3] = [
+    rows::look_up_case,
+    rows::look_update_case,
+    rows::current_case,
+];
+const BETWEEN_ROWS: usize = 8;
 
 /// Trials that ask one file for all that it holds. They take their turn once in `BETWEEN_LONG`,
 /// so that the time is not all theirs.
@@ -92,6 +109,8 @@ pub fn run(seed: u64, limit: Limit) -> Totals {
 fn any_trial(random: &mut Random) -> Trial {
     if random.one_in(BETWEEN_LONG) {
         random.pick(&LONG)
+    } else if random.one_in(BETWEEN_ROWS) {
+        random.pick(&ROWS)
     } else {
         random.pick(&SHORT)
     }
@@ -103,6 +122,8 @@ fn run_oversized(run: &mut Run) {
     header::oversized(&mut bytes, run);
     options::oversized(&mut bytes, run);
     schema::oversized(&mut bytes, run);
+    rows::oversized(&bytes, run);
+    row_writers::oversized(&bytes, run);
 }
 
 impl Limit {
@@ -222,6 +243,40 @@ fn capacity(random: &mut Random, need: usize) -> usize {
     }
 }
 
+/// All numbers under a count of at least 1, then the count itself and one past it.
+fn all_and_past(random: &mut Random, count: usize) -> Vec<usize> {
+    let under = random.below(count);
+    let past = number_past(random, under, count);
+    (0..=count).chain([past]).collect()
+}
+
+/// A number past a count of at least 1; it may be `under`, which is under the count, if high
+/// bits are lost.
+fn number_past(random: &mut Random, under: usize, count: usize) -> usize {
+    let near = count + random.between(1, 300);
+    let lost = random.pick(&[1 << 32, 1 << 33, 1 << 63]);
+    let past = [
+        count + 1,
+        near,
+        under + (1 << 8),
+        under + (1 << 16),
+        under + lost,
+        usize::MAX,
+    ];
+    random.pick(&past).max(count)
+}
+
+/// What both sides say, if that is not the same.
+fn complaints<T: PartialEq + Text>(reading: &Result<T, Error>, archive: &Reply<T>) -> Vec<String> {
+    if agree(reading, archive) {
+        return Vec::new();
+    }
+    vec![
+        format!("reading: {}", reading.text()),
+        format!("archive: {}", archive.text()),
+    ]
+}
+
 /// Complaints about the outputs of two writers that both began with `before`.
 fn output_complaints<T>(
     before: &[u8],
@@ -229,14 +284,15 @@ fn output_complaints<T>(
     theirs: &[u8],
     written: &Result<usize, T>,
 ) -> Vec<String> {
-    filled_complaints(before, ours, theirs, written, shown)
+    filled_complaints(before, ours, theirs, 0, written, shown)
 }
 
-/// Complaints about what two sides filled from its start, which both began as `before`.
+/// Complaints about what two sides filled from `place` on, which both began as `before`.
 fn filled_complaints<N: PartialEq, T>(
     before: &[N],
     ours: &[N],
     theirs: &[N],
+    place: usize,
     written: &Result<usize, T>,
     shown: fn(&[N]) -> String,
 ) -> Vec<String> {
@@ -245,9 +301,13 @@ fn filled_complaints<N: PartialEq, T>(
         complaints.push(format!("output of the reading: {}", shown(ours)));
         complaints.push(format!("output of the archive: {}", shown(theirs)));
     }
-    let kept_from = *written.as_ref().unwrap_or(&0);
+    let piece = written
+        .as_ref()
+        .map_or(0..0, |size| place..place.saturating_add(*size));
     for (side, output) in [("reading", ours), ("archive", theirs)] {
-        if output.get(kept_from..) != before.get(kept_from..) {
+        let is_kept = output.get(..piece.start) == before.get(..piece.start)
+            && output.get(piece.end..) == before.get(piece.end..);
+        if !is_kept {
             complaints.push(format!("the {side} changed what lies outside the piece"));
         }
     }
@@ -270,5 +330,28 @@ mod tests {
         assert!(check([9, 9, 3], [9, 9, 3], Ok(1)));
         assert!(check([9, 2, 3], [9, 2, 3], Err(())));
         assert!(check([1, 2, 3], [1, 2, 4], Err(())));
+    }
+
+    #[test]
+    fn what_lies_before_a_place_is_kept_too() {
+        let before = [1, 2, 3];
+        let check = |ours: [u8; 3], written: Result<usize, ()>| {
+            !filled_complaints(&before, &ours, &ours, 1, &written, shown).is_empty()
+        };
+        assert!(!check([1, 9, 3], Ok(1)));
+        assert!(check([9, 2, 3], Ok(1)));
+        assert!(check([1, 2, 9], Ok(1)));
+        assert!(check([1, 9, 3], Err(())));
+    }
+
+    #[test]
+    fn numbers_past_a_count_are_past_it() {
+        let mut random = Random::new(1);
+        for _ in 0..200 {
+            let count = random.between(1, 300);
+            let numbers = all_and_past(&mut random, count);
+            assert_eq!(numbers.len(), count + 2);
+            assert!(numbers[count..].iter().all(|number| *number >= count));
+        }
     }
 }

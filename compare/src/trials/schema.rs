@@ -1,21 +1,23 @@
 //! Trials of the schema file's calls.
 
-use super::{capacity, damage, filled_complaints, output_complaints, Call, Run};
-use crate::archive::{self, Reply};
+use super::{
+    all_and_past, capacity, complaints, damage, filled_complaints, output_complaints, Call, Run,
+};
+use crate::archive;
 use crate::generate::{self, Shape, MAX_ID};
 use crate::random::Random;
 use crate::reading::schema::{
     read_schema, schema_column, schema_columns, schema_numbers, schema_of_child, write_schema,
     SchemaFile, MAX_COLUMNS, MAX_FILE_COLUMNS,
 };
-use crate::reading::{Error, ErrorCode, Input, MAX_INPUT};
-use crate::text::{agree, shown, shown_numbers, Text};
+use crate::reading::{ErrorCode, Input, MAX_INPUT};
+use crate::text::{shown, shown_numbers};
 
 /// The numbers of the longest list that a writer takes.
-const MAX_NUMBERS: usize = 4_194_304;
+pub(super) const MAX_NUMBERS: usize = 4_194_304;
 
 /// One column of one byte.
-const SOUND: [u8; 3] = [0x01, 0x11, 0x00];
+pub(super) const SOUND: [u8; 3] = [0x01, 0x11, 0x00];
 
 static READ: Call = Call {
     name: "read_schema",
@@ -234,7 +236,7 @@ fn numbers(bytes: &[u8], before: &[u32], run: &mut Run) {
     let reading = schema_numbers(bytes, &mut ours);
     let archive = archive::schema_numbers(bytes, &mut theirs);
     let mut complaints = complaints(&reading, &archive);
-    let of_tables = filled_complaints(before, &ours, &theirs, &reading, shown_numbers);
+    let of_tables = filled_complaints(before, &ours, &theirs, 0, &reading, shown_numbers);
     complaints.extend(of_tables);
     if let Ok(count) = reading {
         write_back(&ours[..count], &theirs[..count], bytes, &mut complaints);
@@ -258,37 +260,9 @@ fn write_back(ours: &[u32], theirs: &[u32], file: &[u8], complaints: &mut Vec<St
     }
 }
 
-/// What both sides say, if that is not the same.
-fn complaints<T: PartialEq + Text>(reading: &Result<T, Error>, archive: &Reply<T>) -> Vec<String> {
-    if agree(reading, archive) {
-        return Vec::new();
-    }
-    vec![
-        format!("reading: {}", reading.text()),
-        format!("archive: {}", archive.text()),
-    ]
-}
-
 /// The schemas of a file; 1 if it is refused.
 fn schema_count(bytes: &[u8]) -> usize {
     read_schema(bytes).map_or(1, |counts| counts.schemas)
-}
-
-/// All numbers under a count of at least 1, then the count itself and one past it.
-fn all_and_past(random: &mut Random, count: usize) -> Vec<usize> {
-    let under = random.below(count);
-    let near = count + random.between(1, 300);
-    let past = random.pick(&[
-        count + 1,
-        near,
-        // Numbers that are under the count if high bits are lost.
-        under + (1 << 8),
-        under + (1 << 16),
-        under + (1 << 32),
-        under + (1 << 63),
-        usize::MAX,
-    ]);
-    (0..=count).chain([past]).collect()
 }
 
 /// The child ids of a file, if it has any, and some that it may lack.
@@ -312,7 +286,7 @@ fn ids(random: &mut Random, bytes: &[u8]) -> Vec<u32> {
 }
 
 /// Bytes for a reader: a file, sound or damaged, or any bytes.
-fn input(random: &mut Random) -> Vec<u8> {
+pub(super) fn input(random: &mut Random) -> Vec<u8> {
     match random.below(32) {
         0 | 1 => {
             let length = random.below(60);

@@ -4,4 +4,5 @@
 
 pub mod answer;
 pub mod head;
+pub mod rows;
 pub mod schemas;

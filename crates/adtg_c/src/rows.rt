@@ -1,0 +1,260 @@
+// Rows, with the schema file that says their columns: look-ups, ends, the number of fields, the current value, the writers.
+ghost use mathlib.Core.Path.{_≡_};
+ghost use mathlib.Core.List.{[], _∷_};
+ghost use lib.ListN.{length};
+ghost use Rattle.wire.specs.Integers.{toldInt};
+ghost use Rattle.wire.specs.Output.{sizeOf};
+ghost use Rattle.row.specs.Told.{toldLookUp, toldUpdate, toldCurrent};
+ghost use Rattle.encode.specs.Writers.{outputWith};
+ghost use Rattle.adtg.specs.Rows.{lookUpIn, fieldCountIn, rowEndIn};
+ghost use Rattle.adtg.specs.Updates.{lookUpdateIn, updateEndIn, currentIn};
+ghost use Rattle.adtg.specs.Writers.{writeOriginalIn, writeUpdateIn};
+ghost use Rattle.adtg_c.specs.Answers.{Answered, padded, sizeValues};
+ghost use Rattle.adtg_c.specs.RowAnswers.{lookUpValues, updateValues, currentValues};
+use crate::answer::answer_written;
+use crate::answer::refuse;
+use adtg::rows::field_count;
+use adtg::rows::look_up;
+use adtg::rows::row_end;
+use adtg::updates::current;
+use adtg::updates::look_update;
+use adtg::updates::update_end;
+use adtg::writers::write_original;
+use adtg::writers::write_update;
+use row::current::CurrentValue;
+use row::rows::LookUp;
+use row::updates::UpdateLookUp;
+use wire::integer::IntRead;
+
+// Five numbers as an answer, and zeros.
+fn tell(a: usize, b: usize, c: usize, d: usize, e: usize) -> [u64; 16]
+    ensures { λ r. ⌜ r ≡ padded (a ∷ b ∷ c ∷ d ∷ e ∷ []) ⌝ }
+{
+    [
+        a as u64,
+        b as u64,
+        c as u64,
+        d as u64,
+        e as u64,
+        0,
+        0,
+        0,
+        0,
+        0,
+        0,
+        0,
+        0,
+        0,
+        0,
+        0,
+    ]
+}
+
+// The answer of a call that gives one number.
+fn answer_int(read: IntRead, out: &mut [u64; 16]) -> u32
+    ensures { λ r. ⌜ Answered sizeValues (toldInt read) r (now (out .exit)) ⌝ }
+{
+    match read {
+        IntRead::Refused(e) => refuse(e, out),
+        IntRead::Int(n) => {
+            *out = tell(n, 0, 0, 0, 0);
+            0
+        }
+    }
+}
+
+// The answer of a look-up in a row.
+fn answer_look_up(found: LookUp, out: &mut [u64; 16]) -> u32
+    ensures { λ r. ⌜ Answered lookUpValues (toldLookUp found) r (now (out .exit)) ⌝ }
+{
+    match found {
+        LookUp::Refused(e) => refuse(e, out),
+        LookUp::Found(f) => {
+            *out = tell(1, f.start, f.end, f.prefixes, 0);
+            0
+        }
+        LookUp::Null => {
+            *out = tell(2, 0, 0, 0, 0);
+            0
+        }
+        LookUp::Chapter => {
+            *out = tell(3, 0, 0, 0, 0);
+            0
+        }
+    }
+}
+
+// The answer of a look-up in update data.
+fn answer_update(found: UpdateLookUp, out: &mut [u64; 16]) -> u32
+    ensures { λ r. ⌜ Answered updateValues (toldUpdate found) r (now (out .exit)) ⌝ }
+{
+    match found {
+        UpdateLookUp::Refused(e) => refuse(e, out),
+        UpdateLookUp::Found(f) => {
+            *out = tell(1, f.start, f.end, f.prefixes, 0);
+            0
+        }
+        UpdateLookUp::Null => {
+            *out = tell(2, 0, 0, 0, 0);
+            0
+        }
+        UpdateLookUp::Chapter => {
+            *out = tell(3, 0, 0, 0, 0);
+            0
+        }
+        UpdateLookUp::Unchanged => {
+            *out = tell(4, 0, 0, 0, 0);
+            0
+        }
+    }
+}
+
+// The answer of a current value.
+fn answer_current(found: CurrentValue, out: &mut [u64; 16]) -> u32
+    ensures { λ r. ⌜ Answered currentValues (toldCurrent found) r (now (out .exit)) ⌝ }
+{
+    match found {
+        CurrentValue::Refused(e) => refuse(e, out),
+        CurrentValue::Updated(f) => {
+            *out = tell(1, 2, f.start, f.end, f.prefixes);
+            0
+        }
+        CurrentValue::Forced => {
+            *out = tell(2, 2, 0, 0, 0);
+            0
+        }
+        CurrentValue::Found(f) => {
+            *out = tell(1, 1, f.start, f.end, f.prefixes);
+            0
+        }
+        CurrentValue::Null => {
+            *out = tell(2, 1, 0, 0, 0);
+            0
+        }
+        CurrentValue::Chapter => {
+            *out = tell(3, 1, 0, 0, 0);
+            0
+        }
+    }
+}
+
+// What a row has at a column.
+#[no_mangle]
+pub extern "C" fn adtg_look_up(
+    file: &[u8],
+    number: usize,
+    row: &[u8],
+    column: usize,
+    out: &mut [u64; 16],
+) -> u32
+    ensures { λ r. ⌜ Answered lookUpValues (lookUpIn (now (file .entry)) number (now (row .entry)) column) r (now (out .exit)) ⌝ }
+{
+    answer_look_up(look_up(file, number, row, column), out)
+}
+
+// The number of fields of a row.
+#[no_mangle]
+pub extern "C" fn adtg_field_count(
+    file: &[u8],
+    number: usize,
+    row: &[u8],
+    out: &mut [u64; 16],
+) -> u32
+    ensures { λ r. ⌜ Answered sizeValues (fieldCountIn (now (file .entry)) number (now (row .entry))) r (now (out .exit)) ⌝ }
+{
+    answer_int(field_count(file, number, row), out)
+}
+
+// Where the row at `at` ends.
+#[no_mangle]
+pub extern "C" fn adtg_row_end(
+    file: &[u8],
+    number: usize,
+    row: &[u8],
+    at: usize,
+    out: &mut [u64; 16],
+) -> u32
+    ensures { λ r. ⌜ Answered sizeValues (rowEndIn (now (file .entry)) number (now (row .entry)) at) r (now (out .exit)) ⌝ }
+{
+    answer_int(row_end(file, number, row, at), out)
+}
+
+// What update data say of a column.
+#[no_mangle]
+pub extern "C" fn adtg_look_update(
+    file: &[u8],
+    number: usize,
+    update: &[u8],
+    column: usize,
+    out: &mut [u64; 16],
+) -> u32
+    ensures { λ r. ⌜ Answered updateValues (lookUpdateIn (now (file .entry)) number (now (update .entry)) column) r (now (out .exit)) ⌝ }
+{
+    answer_update(look_update(file, number, update, column), out)
+}
+
+// Where the update data at `at` end.
+#[no_mangle]
+pub extern "C" fn adtg_update_end(
+    file: &[u8],
+    number: usize,
+    update: &[u8],
+    at: usize,
+    out: &mut [u64; 16],
+) -> u32
+    ensures { λ r. ⌜ Answered sizeValues (updateEndIn (now (file .entry)) number (now (update .entry)) at) r (now (out .exit)) ⌝ }
+{
+    answer_int(update_end(file, number, update, at), out)
+}
+
+// The current value of a column of a changed row.
+#[no_mangle]
+pub extern "C" fn adtg_current(
+    file: &[u8],
+    number: usize,
+    row: &[u8],
+    update: &[u8],
+    column: usize,
+    out: &mut [u64; 16],
+) -> u32
+    ensures { λ r. ⌜ Answered currentValues (currentIn (now (file .entry)) number (now (row .entry)) (now (update .entry)) column) r (now (out .exit)) ⌝ }
+{
+    answer_current(current(file, number, row, update, column), out)
+}
+
+// Writes an original row into `dst` from `place` on: bytes written.
+#[no_mangle]
+pub extern "C" fn adtg_write_original(
+    file: &[u8],
+    number: usize,
+    entries: &[u32],
+    values: &[u8],
+    place: usize,
+    dst: &mut [u8],
+    out: &mut [u64; 16],
+) -> u32
+    ensures answers { λ r. ⌜ Answered sizeValues (sizeOf (writeOriginalIn (now (file .entry)) number (now (entries .entry)) (now (values .entry)) (length (now (dst .entry))) place)) r (now (out .exit)) ⌝ }
+    ensures leaves { λ r. ⌜ now (dst .exit) ≡ outputWith (writeOriginalIn (now (file .entry)) number (now (entries .entry)) (now (values .entry)) (length (now (dst .entry))) place) place (now (dst .entry)) ⌝ }
+{
+    answer_written(
+        write_original(file, number, entries, values, dst, place),
+        out,
+    )
+}
+
+// Writes update data into `dst` from `place` on: bytes written.
+#[no_mangle]
+pub extern "C" fn adtg_write_update(
+    file: &[u8],
+    number: usize,
+    entries: &[u32],
+    values: &[u8],
+    place: usize,
+    dst: &mut [u8],
+    out: &mut [u64; 16],
+) -> u32
+    ensures answers { λ r. ⌜ Answered sizeValues (sizeOf (writeUpdateIn (now (file .entry)) number (now (entries .entry)) (now (values .entry)) (length (now (dst .entry))) place)) r (now (out .exit)) ⌝ }
+    ensures leaves { λ r. ⌜ now (dst .exit) ≡ outputWith (writeUpdateIn (now (file .entry)) number (now (entries .entry)) (now (values .entry)) (length (now (dst .entry))) place) place (now (dst .entry)) ⌝ }
+{
+    answer_written(write_update(file, number, entries, values, dst, place), out)
+}
