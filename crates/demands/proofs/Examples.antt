@@ -2,15 +2,23 @@
 -- Assumes nothing.
 use mathlib.Core.List.{List, map}
 use mathlib.Core.Path.{_≡_, refl}
-use Rattle.wire.specs.Read.{check, sizedBy, sized, whole, byteAt, constants}
+use Rattle.wire.specs.Read.{check, about, sizedBy, sized, whole, byteAt, constants}
+use Rattle.wire.specs.Bits.{bitAt, bitSet, mapBytes}
+use Rattle.wire.specs.Integers.{valueOf, intAt, readInt}
 use Rattle.column.specs.Types.{types, kindIn, kindOf}
+use Rattle.column.specs.Columns.{isNullable, prefixSize, lengthError}
+use Rattle.column.specs.Fields.{allowed, bytesAt, variableAt, fieldAt}
 use Rattle.schema.specs.Numbers.{thirdGroup, secondGroup, numberIn}
 use Rattle.schema.specs.Tree.{member}
 use Rattle.schema.specs.Reader.{readNumber, readRange, readFixed, readVariable, readChapter, readKind, readColumn, readColumns, readSchema, ended, readFile, fileOf}
-use Rattle.schema.specs.Schemas.{ownColumns, nestedSchemas, schemasOf, readSchemas}
+use Rattle.schema.specs.Schemas.{ownColumns, nestedSchemas, schemasOf, readSchemas, schemaAt}
+use Rattle.schema.specs.Questions.{withSchema}
 use Rattle.header.specs.Header.{headerFields, headerOf}
+use Rattle.row.specs.Presence.{nullables, presenceBytes, marks, bitOf, present, chapterPresent, clear}
+use Rattle.row.specs.Rows.{step, walk, arrive, opened, walked, fieldOf, columnOf, known, lookUp}
+use Rattle.adtg.specs.Rows.{lookUpIn}
 use Rattle.demands.specs.Examples.{Example, Said, answerTo, examples}
 
 pub examples-hold : map (λ (e : Example). answerTo (e .call)) examples ≡ map (λ (e : Example). e .said) examples
-unfolding examples headerOf headerFields sized sizedBy check constants byteAt whole types kindIn kindOf thirdGroup secondGroup numberIn member readNumber readRange readFixed readVariable readChapter readKind readColumn readColumns readSchema ended readFile fileOf ownColumns nestedSchemas schemasOf readSchemas
+unfolding examples headerOf headerFields sized sizedBy check constants byteAt whole types kindIn kindOf thirdGroup secondGroup numberIn member readNumber readRange readFixed readVariable readChapter readKind readColumn readColumns readSchema ended readFile fileOf ownColumns nestedSchemas schemasOf readSchemas schemaAt withSchema about bitAt bitSet mapBytes valueOf intAt readInt isNullable prefixSize lengthError allowed bytesAt variableAt fieldAt nullables presenceBytes marks bitOf present chapterPresent clear step walk arrive opened walked fieldOf columnOf known lookUp lookUpIn
 examples-hold = refl

@@ -6,16 +6,23 @@ use Rattle.wire.specs.Read.{Bytes, Read, ok, bad}
 use Rattle.header.specs.declared.header.Header.{Header}
 use Rattle.header.specs.Header.{headerOf}
 use Rattle.schema.specs.Schemas.{Entry, entry, Schema, schema, readSchemas}
+use Rattle.row.specs.Rows.{Answer, field, null, chapter}
+use Rattle.adtg.specs.Rows.{lookUpIn}
 
 -- a call with its inputs
 pub data Call : Type 0 where
   readHeader : Bytes → Call
   readSchema : Bytes → Call
+  lookUp : (file row : Bytes) (column : ℕ) → Call
 
--- an answer in the paper's words: where a piece ends, the columns of the top schema, or an error by its number and place
+-- an answer in the paper's words: where a piece ends, the columns of the top schema, a field by its two ends and its prefixes, null, a
+-- chapter, or an error by its number and place
 pub data Said : Type 0 where
   endsAt : ℕ → Said
   columnsAre : List Entry → Said
+  fieldAt : (start end prefixes : ℕ) → Said
+  isNull : Said
+  isChapter : Said
   refusedAt : ℕ → ℕ → Said
 
 abbrev pub sayEnd : Read Header → Said
@@ -30,10 +37,17 @@ abbrev pub sayColumns : Read (List Schema) → Said
 sayColumns (ok schemas) = columnsAre (topOf schemas)
 sayColumns (bad code offset about) = refusedAt code offset
 
+abbrev pub sayField : Read Answer → Said
+sayField (ok (field f)) = fieldAt (f .start) (f .end) (f .prefixes)
+sayField (ok null) = isNull
+sayField (ok chapter) = isChapter
+sayField (bad code offset about) = refusedAt code offset
+
 -- what the definitions answer to a call
 abbrev pub answerTo : Call → Said
 answerTo (readHeader bytes) = sayEnd (headerOf bytes)
 answerTo (readSchema bytes) = sayColumns (readSchemas bytes)
+answerTo (lookUp file row column) = sayField (lookUpIn file 0 row column)
 
 pub record Example : Type 0 where
   pub call : Call
@@ -46,6 +60,19 @@ example c s = record { call = c; said = s }
 abbrev pub S : Bytes
 S = 0x03 ∷ 0x03 ∷ 0x00 ∷ 0x82 ∷ 0x01 ∷ 0x01 ∷ 0x0A ∷ 0x11 ∷ 0x01 ∷ []
 
+-- the paper's rows under S: all present, text null, cut off behind the integer, a length of 3
+abbrev pub whole : Bytes
+whole = 0xC0 ∷ 0x05 ∷ 0x00 ∷ 0x00 ∷ 0x00 ∷ 0x04 ∷ 0x68 ∷ 0x00 ∷ 0x69 ∷ 0x00 ∷ 0x2A ∷ []
+
+abbrev pub textNull : Bytes
+textNull = 0x7F ∷ 0x05 ∷ 0x00 ∷ 0x00 ∷ 0x00 ∷ 0x2A ∷ []
+
+abbrev pub cutOff : Bytes
+cutOff = 0xC0 ∷ 0x05 ∷ 0x00 ∷ 0x00 ∷ 0x00 ∷ []
+
+abbrev pub oddText : Bytes
+oddText = 0xC0 ∷ 0x05 ∷ 0x00 ∷ 0x00 ∷ 0x00 ∷ 0x03 ∷ []
+
 -- the list, in the paper's order
 unfoldable pub examples : List Example
 examples =
@@ -53,4 +80,12 @@ examples =
     ∷ example (readHeader (0x01 ∷ 0x08 ∷ [])) (refusedAt 2 1)
     ∷ example (readSchema S) (columnsAre (entry 0x03 0 0 0 ∷ entry 0x82 1 10 0 ∷ entry 0x11 1 0 0 ∷ []))
     ∷ example (readSchema (0x83 ∷ 0x00 ∷ [])) (refusedAt 5 0)
+    ∷ example (lookUp S whole 0) (fieldAt 1 5 0)
+    ∷ example (lookUp S whole 1) (fieldAt 6 10 1)
+    ∷ example (lookUp S whole 2) (fieldAt 10 11 1)
+    ∷ example (lookUp S textNull 1) isNull
+    ∷ example (lookUp S textNull 2) (fieldAt 5 6 0)
+    ∷ example (lookUp S cutOff 0) (fieldAt 1 5 0)
+    ∷ example (lookUp S cutOff 2) (refusedAt 1 5)
+    ∷ example (lookUp S oddText 1) (refusedAt 14 5)
     ∷ []

@@ -2,8 +2,10 @@
 
 mod file;
 mod head;
+mod rows;
 
 fn main() {
     head::run();
     file::run();
+    rows::run();
 }
