@@ -5,7 +5,7 @@
  * Inputs stand in the call's order; a run of bytes is a pointer, which is never null, and a length. Last comes `out`,
  * sixteen numbers that the call fills whole. The result is 0, and `out` begins with the values named at the call; or it is
  * the number of the error, and out[0] is the offset (the place) and out[1] the input that the error concerns. All other
- * numbers of `out` are 0.
+ * numbers of `out` are 0. The calls that answer a struct have no `out`.
  *
  * A writer writes at the start of its output or table, a row writer from a place in its output on. It leaves all that lies
  * outside the piece; an error leaves all of it.
@@ -35,6 +35,7 @@ enum adtg_error {
     ADTG_LENGTH = 14,        /* a length is over the maximum, or odd in wide text; offset: its prefix */
     ADTG_TRAILING = 15,      /* bytes after the end; offset: the first of them */
     ADTG_CAPACITY = 16,      /* the output or table is too small; offset: the bytes or numbers that the piece needs */
+    ADTG_PLAN_MISMATCH = 17, /* the plan is not that of the schema; offset: 0 */
     ADTG_MISSING = 18,       /* no such schema, column, child id, place or entry; offset: 0 */
     ADTG_TOO_LARGE = 19,     /* an input has more than 16,777,216 bytes; offset: 0 */
     ADTG_ENTRY = 20          /* an entry can't stand in its column; offset: the column */
@@ -50,6 +51,7 @@ enum adtg_input {
     ADTG_COLUMN = 5,
     ADTG_TABLE = 7,
     ADTG_OUTPUT = 8,
+    ADTG_PLAN = 9,
     ADTG_ENTRIES = 10,
     ADTG_VALUES = 11,
     ADTG_PLACE = 12,
@@ -69,6 +71,12 @@ enum adtg_kind {
     ADTG_NULL = 2,
     ADTG_CHAPTER = 3,        /* the column is a chapter and has no field */
     ADTG_UNCHANGED = 4       /* update data leave the column as it is */
+};
+
+/* What a plan answers about the place of a column. */
+enum adtg_place {
+    ADTG_FIXED = 1,          /* the column's field starts at this place in every row that has it */
+    ADTG_NOT_FIXED = 2       /* its place depends on the row, or the column is a chapter */
 };
 
 /* Where a current value is taken from. */
@@ -188,6 +196,96 @@ uint32_t adtg_write_update(const uint8_t *file, size_t file_length, size_t numbe
                            const uint32_t *entries, size_t count,
                            const uint8_t *values, size_t values_length,
                            size_t place, uint8_t *output, size_t capacity, uint64_t out[16]);
+
+/* A plan holds the columns of one schema and how far apart their fields lie, so that a look-up visits only the stops before
+ * the column that it asks for. A stop is a column that is no chapter and is nullable or of variable length: behind it places
+ * depend on the row.
+ *
+ * A plan is kept and handed on by value, and two plans are equal where all their numbers are. Two schemas have equal plans
+ * exactly where they agree in the count of columns and in type, flags and maximum of each.
+ *
+ * Plans are made by `adtg_make_plan`. Any other numbers are allowed too: a look-up still answers, a field that it finds lies
+ * in the row, and where no earlier column is a stop by the plan's own codes and flags, the field starts at the plan's gap,
+ * with the bytes of its prefix added. */
+typedef struct adtg_plan {
+    size_t count;            /* columns */
+    size_t map;              /* bytes of the presence map */
+    size_t chapters;         /* nullable chapters */
+    uint8_t codes[64];       /* of each column: its type code; this and all that follow are 0 behind the last */
+    uint8_t flags[64];       /* its flags */
+    uint16_t maxima[64];     /* its maximum, 0 where the type has none */
+    uint16_t gaps[64];       /* the bytes from the end of the last earlier stop, or from the row's start, up to its prefix or
+                              * field; 0 for a chapter */
+    uint8_t bits[64];        /* how many nullable columns stand before it */
+    uint8_t before[64];      /* how many stops stand before it */
+    uint8_t stops[64];       /* the numbers of the stops, in order */
+    uint8_t marked[64];      /* the bits of the nullable chapters in the map, in order */
+} adtg_plan;
+
+/* A plan, or why there is none. */
+typedef struct adtg_plan_answer {
+    uint32_t code;           /* 0, or the number of the error; then all numbers of the plan are 0 */
+    uint64_t offset;         /* offset and input of an error, else 0 */
+    uint64_t input;
+    adtg_plan plan;
+} adtg_plan_answer;
+
+/* What a look-up through a plan answers. */
+typedef struct adtg_found {
+    uint32_t code;           /* 0, or the number of the error */
+    uint32_t kind;           /* field, null or chapter; 0 beside an error */
+    uint64_t first;          /* start of a field; offset of an error; else 0 */
+    uint64_t second;         /* end of a field; input of an error; else 0 */
+    uint64_t prefixes;       /* of a field, else 0 */
+} adtg_found;
+
+/* Makes the plan of a schema. */
+adtg_plan_answer adtg_make_plan(const uint8_t *file, size_t file_length, size_t number);
+
+/* Checks a plan against a schema, after the file and the schema number: error 17 names the plan where it is not the one that
+ * would be made.
+ * out: nothing. */
+uint32_t adtg_check_plan(adtg_plan plan, const uint8_t *file, size_t file_length, size_t number, uint64_t out[16]);
+
+/* Asks a plan, without any row, for the place of a column's field, counted from the start of the row.
+ * out: fixed or not, place (0 where it is not). */
+uint32_t adtg_fixed_place(adtg_plan plan, size_t column, uint64_t out[16]);
+
+/* Looks up a column in an original row by the parts of a plan. With the plan of a schema it answers as `adtg_look_up` does
+ * with that schema. */
+adtg_found adtg_planned_look_up(size_t count, size_t map, size_t chapters,
+                                const uint8_t codes[64], const uint8_t flags[64],
+                                const uint16_t maxima[64], const uint16_t gaps[64],
+                                const uint8_t bits[64], const uint8_t before[64],
+                                const uint8_t stops[64], const uint8_t marked[64],
+                                const uint8_t *row, size_t row_length, size_t column);
+
+/* Opens an original row by a plan: checks its size, that its presence map is whole and that no chapter's bit is set.
+ * out: where the data behind the map start, for look-ups in the opened row. */
+uint32_t adtg_open_row(adtg_plan plan, const uint8_t *row, size_t row_length, uint64_t out[16]);
+
+/* Looks up a column in a row that was opened by the same plan, without checking the map again. `start` is what opening
+ * answered. */
+adtg_found adtg_open_look_up(size_t count, size_t map, size_t chapters,
+                             const uint8_t codes[64], const uint8_t flags[64],
+                             const uint16_t maxima[64], const uint16_t gaps[64],
+                             const uint8_t bits[64], const uint8_t before[64],
+                             const uint8_t stops[64], const uint8_t marked[64],
+                             size_t start, const uint8_t *row, size_t row_length, size_t column);
+
+/* The two look-ups with a plan in place of its parts. No call copies the plan. */
+static inline adtg_found adtg_find(const adtg_plan *plan, const uint8_t *row, size_t row_length, size_t column)
+{
+    return adtg_planned_look_up(plan->count, plan->map, plan->chapters, plan->codes, plan->flags, plan->maxima, plan->gaps,
+                                plan->bits, plan->before, plan->stops, plan->marked, row, row_length, column);
+}
+
+static inline adtg_found adtg_find_opened(const adtg_plan *plan, size_t start,
+                                          const uint8_t *row, size_t row_length, size_t column)
+{
+    return adtg_open_look_up(plan->count, plan->map, plan->chapters, plan->codes, plan->flags, plan->maxima, plan->gaps,
+                             plan->bits, plan->before, plan->stops, plan->marked, start, row, row_length, column);
+}
 
 #ifdef __cplusplus
 }

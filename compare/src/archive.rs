@@ -5,8 +5,9 @@ use std::ops::Range;
 
 use crate::reading::header::Header;
 use crate::reading::options::Options;
+use crate::reading::plan::PlanNumbers;
 use crate::reading::row::Answer;
-use crate::reading::schema::{Counts, Description};
+use crate::reading::schema::{Counts, Description, MAX_COLUMNS};
 use crate::reading::update::{Change, Current};
 use crate::reading::{Error, ErrorCode, Input};
 
@@ -25,6 +26,35 @@ const UNCHANGED: u64 = 4;
 /// Which data a current value is taken from, as the second number of an answer.
 const FROM_ROW: u64 = 1;
 const FROM_UPDATE: u64 = 2;
+
+/// Whether a plan fixes a place, as the first number of an answer.
+const FIXED: u64 = 1;
+const NOT_FIXED: u64 = 2;
+
+/// What making a plan replies.
+#[repr(C)]
+#[derive(Clone, Copy)]
+struct PlanAnswer {
+    code: u32,
+    offset: u64,
+    input: u64,
+    plan: PlanNumbers,
+}
+
+/// What a look-up through a plan replies, as it comes.
+#[repr(C)]
+#[derive(Clone, Copy, Debug, PartialEq, Eq)]
+pub struct Found {
+    code: u32,
+    kind: u32,
+    first: u64,
+    second: u64,
+    prefixes: u64,
+}
+
+/// The lists of a plan, one by one.
+type Bytes = *const [u8; MAX_COLUMNS];
+type Shorts = *const [u16; MAX_COLUMNS];
 
 extern "C" {
     fn adtg_read_header(bytes: *const u8, len: usize, out: *mut Out) -> u32;
@@ -162,6 +192,49 @@ extern "C" {
         output_len: usize,
         out: *mut Out,
     ) -> u32;
+    fn adtg_make_plan(file: *const u8, file_len: usize, number: usize) -> PlanAnswer;
+    fn adtg_check_plan(
+        plan: PlanNumbers,
+        file: *const u8,
+        file_len: usize,
+        number: usize,
+        out: *mut Out,
+    ) -> u32;
+    fn adtg_fixed_place(plan: PlanNumbers, column: usize, out: *mut Out) -> u32;
+    fn adtg_planned_look_up(
+        count: usize,
+        map: usize,
+        chapters: usize,
+        codes: Bytes,
+        flags: Bytes,
+        maxima: Shorts,
+        gaps: Shorts,
+        bits: Bytes,
+        before: Bytes,
+        stops: Bytes,
+        marked: Bytes,
+        row: *const u8,
+        row_len: usize,
+        column: usize,
+    ) -> Found;
+    fn adtg_open_row(plan: PlanNumbers, row: *const u8, row_len: usize, out: *mut Out) -> u32;
+    fn adtg_open_look_up(
+        count: usize,
+        map: usize,
+        chapters: usize,
+        codes: Bytes,
+        flags: Bytes,
+        maxima: Shorts,
+        gaps: Shorts,
+        bits: Bytes,
+        before: Bytes,
+        stops: Bytes,
+        marked: Bytes,
+        start: usize,
+        row: *const u8,
+        row_len: usize,
+        column: usize,
+    ) -> Found;
 }
 
 /// Why a call of the archive gave no answer.
@@ -517,6 +590,119 @@ pub fn write_update(
     decode(code, out, 1, one_size)
 }
 
+/// The archive's plan of one schema of a file.
+pub fn make_plan(file: &[u8], number: usize) -> Reply<PlanNumbers> {
+    // SAFETY: as in `read_header`; the reply is a struct of the form agreed.
+    let answer = unsafe { adtg_make_plan(file.as_ptr(), file.len(), number) };
+    planned(&answer)
+}
+
+/// The archive's check that a plan is the one of this schema.
+pub fn check_plan(plan: &PlanNumbers, file: &[u8], number: usize) -> Reply<()> {
+    let mut out = UNTOUCHED;
+    // SAFETY: as in `read_header`; the plan is a struct of the form agreed.
+    let code = unsafe { adtg_check_plan(*plan, file.as_ptr(), file.len(), number, &mut out) };
+    decode(code, out, 0, |_| Some(()))
+}
+
+/// The place that a plan fixes for the archive; `None` if it depends on the row.
+pub fn fixed_place(plan: &PlanNumbers, column: usize) -> Reply<Option<usize>> {
+    let mut out = UNTOUCHED;
+    // SAFETY: as in `check_plan`.
+    let code = unsafe { adtg_fixed_place(*plan, column, &mut out) };
+    decode(code, out, 2, place)
+}
+
+/// What the archive finds in one column of a row through a plan.
+#[inline]
+pub fn planned_look_up(plan: &PlanNumbers, row: &[u8], column: usize) -> Found {
+    // SAFETY: as in `read_header`, for the row; each list of the plan has the length agreed.
+    unsafe {
+        adtg_planned_look_up(
+            plan.count,
+            plan.map,
+            plan.chapters,
+            &plan.codes,
+            &plan.flags,
+            &plan.maxima,
+            &plan.gaps,
+            &plan.bits,
+            &plan.before,
+            &plan.stops,
+            &plan.marked,
+            row.as_ptr(),
+            row.len(),
+            column,
+        )
+    }
+}
+
+/// Opens a row for the archive: where its data start.
+pub fn open_row(plan: &PlanNumbers, row: &[u8]) -> Reply<usize> {
+    let mut out = UNTOUCHED;
+    // SAFETY: as in `check_plan`.
+    let code = unsafe { adtg_open_row(*plan, row.as_ptr(), row.len(), &mut out) };
+    decode(code, out, 1, one_size)
+}
+
+/// What the archive finds in one column of a row that was opened, with what opening answered.
+#[inline]
+pub fn open_look_up(plan: &PlanNumbers, start: usize, row: &[u8], column: usize) -> Found {
+    // SAFETY: as in `planned_look_up`.
+    unsafe {
+        adtg_open_look_up(
+            plan.count,
+            plan.map,
+            plan.chapters,
+            &plan.codes,
+            &plan.flags,
+            &plan.maxima,
+            &plan.gaps,
+            &plan.bits,
+            &plan.before,
+            &plan.stops,
+            &plan.marked,
+            start,
+            row.as_ptr(),
+            row.len(),
+            column,
+        )
+    }
+}
+
+impl Found {
+    /// The reply as an answer or an error.
+    pub fn reply(&self) -> Reply<Answer> {
+        let mut out = [0; 16];
+        let kind = u64::from(self.kind);
+        // An error has offset and input in front of what must be 0.
+        let numbers = match self.code {
+            0 => [kind, self.first, self.second, self.prefixes],
+            _ => [self.first, self.second, kind, self.prefixes],
+        };
+        out[..numbers.len()].copy_from_slice(&numbers);
+        decode(self.code, out, 4, found)
+    }
+}
+
+/// A plan, or the error beside a blank one.
+fn planned(answer: &PlanAnswer) -> Reply<PlanNumbers> {
+    let mut out = [0; 16];
+    (out[0], out[1]) = (answer.offset, answer.input);
+    // A plan beside an error counts as a number too many.
+    out[2] = u64::from(answer.code != 0 && answer.plan != PlanNumbers::BLANK);
+    decode(answer.code, out, 0, |_| Some(answer.plan))
+}
+
+/// A place that is fixed, or 0 where none is.
+fn place(numbers: &Out) -> Option<Option<usize>> {
+    match *numbers {
+        [FIXED, place, ..] => Some(Some(usize::try_from(place).ok()?)),
+        [NOT_FIXED, 0, ..] => Some(None),
+        _ => None,
+    }
+}
+
 /// What a row has in a column. The numbers of a field are 0 where there is none.
 fn found(numbers: &Out) -> Option<Answer> {
     match *numbers {
@@ -657,6 +843,72 @@ mod tests {
         assert_eq!(value(&[3, 1]), Some(Current::Original(Answer::Chapter)));
         for wrong in [&[2, 0][..], &[2, 3], &[3, 2], &[4, 1], &[2, 1, 0, 0, 1]] {
             assert_eq!(value(wrong), None, "{wrong:?}");
+        }
+    }
+
+    #[test]
+    fn a_plan_or_an_error_stands_alone() {
+        let made = PlanNumbers {
+            count: 1,
+            ..PlanNumbers::BLANK
+        };
+        let answer = |code, offset, input, plan| {
+            planned(&PlanAnswer {
+                code,
+                offset,
+                input,
+                plan,
+            })
+        };
+        assert_eq!(answer(0, 0, 0, made), Ok(made));
+        let error = Error::new(ErrorCode::NoSuch, 0, Input::SchemaNumber);
+        let refused = answer(18, 0, 2, PlanNumbers::BLANK);
+        assert_eq!(refused, Err(Fault::Error(error)));
+        for wrong in [
+            answer(0, 1, 0, made),
+            answer(0, 0, 2, made),
+            answer(18, 0, 2, made),
+            answer(21, 0, 2, PlanNumbers::BLANK),
+        ] {
+            assert!(matches!(wrong, Err(Fault::Malformed { .. })), "{wrong:?}");
+        }
+    }
+
+    #[test]
+    fn a_look_up_by_a_plan_finds_a_field_or_zeros() {
+        let reply = |code, kind, first, second, prefixes| {
+            let found = Found {
+                code,
+                kind,
+                first,
+                second,
+                prefixes,
+            };
+            found.reply()
+        };
+        let (place, prefixes) = (6..10, 1);
+        assert_eq!(reply(0, 1, 6, 10, 1), Ok(Answer::Field { place, prefixes }));
+        assert_eq!(reply(0, 2, 0, 0, 0), Ok(Answer::Null));
+        let error = Error::new(ErrorCode::Length, 5, Input::Row);
+        assert_eq!(reply(14, 0, 5, 3, 0), Err(Fault::Error(error)));
+        for wrong in [
+            reply(0, 0, 6, 10, 1),
+            reply(0, 4, 0, 0, 0),
+            reply(0, 3, 0, 0, 1),
+            reply(14, 1, 5, 3, 0),
+            reply(14, 0, 5, 3, 1),
+            reply(14, 0, 5, 21, 0),
+        ] {
+            assert!(matches!(wrong, Err(Fault::Malformed { .. })), "{wrong:?}");
+        }
+    }
+
+    #[test]
+    fn a_place_is_fixed_or_zero() {
+        assert_eq!(place(&numbers(&[1, 9])), Some(Some(9)));
+        assert_eq!(place(&numbers(&[2])), Some(None));
+        for wrong in [[0, 0], [2, 1], [3, 0]] {
+            assert_eq!(place(&numbers(&wrong)), None, "{wrong:?}");
         }
     }
 

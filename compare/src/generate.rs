@@ -140,16 +140,22 @@ impl Maker {
 
     /// Adds a schema; at least one column must be left.
     fn schema(&mut self, random: &mut Random, depth: usize) {
-        let wanted = match random.below(8) {
-            0 => random.between(1, MAX_COLUMNS),
-            1 => random.between(1, 20),
+        let form = random.below(9);
+        let wanted = match form {
+            0 | 1 => random.between(1, MAX_COLUMNS),
+            2 => random.between(1, 20),
             _ => random.between(1, 6),
         };
         let count = wanted.min(self.columns_left);
         self.columns_left -= count;
         self.numbers.push(count as u32);
         for _ in 0..count {
-            self.column(random, depth);
+            // Some have long runs of columns that every row has with the same width.
+            if form == 0 && !random.one_in(24) {
+                self.numbers.extend([u32::from(random.pick(&FIXED).0), 0]);
+            } else {
+                self.column(random, depth);
+            }
         }
     }
 

@@ -5,6 +5,7 @@
 
 #[allow(unsafe_code)]
 pub mod archive;
+pub mod bench;
 pub mod generate;
 pub mod random;
 pub mod reading;

@@ -1,17 +1,19 @@
 //! `compare vectors FOLDER` and `compare random`: holds the reading, the vectors and the
-//! archive against each other.
+//! archive against each other. `compare bench` measures look-ups of both.
 
 use std::env;
 use std::path::Path;
 use std::process::ExitCode;
 use std::time::Duration;
 
+use compare::bench;
 use compare::trials::{self, Limit};
 use compare::vectors;
 use compare::Totals;
 
 const USAGE: &str = "usage: compare vectors FOLDER
-       compare random [--seed S] [--seconds N | --cases N]";
+       compare random [--seed S] [--seconds N | --cases N]
+       compare bench [--count [fixed|nullable|eight|variable COLUMN]]";
 
 const DEFAULT_SEED: u64 = 1;
 const DEFAULT_CASES: u64 = 200_000;
@@ -38,6 +40,14 @@ fn run(words: &[&str]) -> Result<Totals, String> {
         ["random", options @ ..] => {
             let (seed, limit) = random_options(options)?;
             Ok(trials::run(seed, limit))
+        }
+        ["bench"] => bench::run(),
+        ["bench", "--count"] => bench::count(None),
+        ["bench", "--count", table, column] => {
+            let column = column
+                .parse()
+                .map_err(|_| format!("not a column: {column}"))?;
+            bench::count(Some((table, column)))
         }
         _ => Err(USAGE.to_string()),
     }

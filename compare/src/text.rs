@@ -6,9 +6,9 @@ use std::ops::Range;
 use crate::archive::{Fault, Reply};
 use crate::reading::header::Header;
 use crate::reading::options::Options;
-use crate::reading::plan::Plan;
+use crate::reading::plan::{Plan, PlanNumbers};
 use crate::reading::row;
-use crate::reading::schema::{Counts, Description};
+use crate::reading::schema::{Counts, Description, MAX_COLUMNS};
 use crate::reading::update::{Change, Current};
 use crate::reading::Error;
 
@@ -74,6 +74,27 @@ impl Text for Plan {
             );
         }
         text
+    }
+}
+
+/// The part of a plan's numbers that vector files show.
+impl Text for PlanNumbers {
+    fn text(&self) -> String {
+        let mut text = format!("plan {}", self.count);
+        for at in 0..self.count.min(MAX_COLUMNS) {
+            text += &format!(
+                " {}:{}:{}:{}",
+                self.codes[at], self.flags[at], self.maxima[at], self.gaps[at]
+            );
+        }
+        text
+    }
+}
+
+/// The plan that is checked is the schema's.
+impl Text for () {
+    fn text(&self) -> String {
+        "accepted".to_string()
     }
 }
 

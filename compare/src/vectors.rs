@@ -14,7 +14,7 @@ use crate::reading::schema::{read_schema, write_schema};
 use crate::reading::section::{read_section, ROW_NUMBERS};
 use crate::reading::update::current;
 use crate::reading::Error;
-use crate::text::{hex, parse_hex, Text};
+use crate::text::{agree, hex, parse_hex, Text};
 use crate::Totals;
 
 /// What both sides say about one line; `None` where the archive lacks the call or cannot be
@@ -204,8 +204,24 @@ fn walk_and_plan(schema: &[u8], number: usize, row: &[u8], column: usize) -> Str
     walk.text()
 }
 
+/// The same of the archive. A schema that has no plan must be refused by the walk too.
 fn archive_look_up(schema: &[u8], number: usize, row: &[u8], column: usize) -> Option<String> {
-    Some(archive::look_up(schema, number, row, column).text())
+    let walk = archive::look_up(schema, number, row, column);
+    let (planned, opened) = match archive::make_plan(schema, number) {
+        Ok(plan) => {
+            let planned = archive::planned_look_up(&plan, row, column).reply();
+            let opened = archive::open_row(&plan, row).map_or(planned.clone(), |start| {
+                archive::open_look_up(&plan, start, row, column).reply()
+            });
+            (planned, opened)
+        }
+        Err(fault) => (Err(fault.clone()), Err(fault)),
+    };
+    if planned != walk || opened != walk {
+        let answers = [walk, planned, opened];
+        return Some(answers.map(|answer| answer.text()).join(", "));
+    }
+    Some(walk.text())
 }
 
 fn field_count_line(inputs: &[&str]) -> Result<Answers, String> {
@@ -251,8 +267,15 @@ fn make_plan_line(inputs: &[&str]) -> Result<Answers, String> {
     })
 }
 
-fn archive_make_plan(_schema: &[u8], _number: usize) -> Option<String> {
-    None
+/// The archive's plan. Says so if numbers that the text leaves out are not the reading's.
+fn archive_make_plan(schema: &[u8], number: usize) -> Option<String> {
+    let wanted = make_plan(schema, number).map(|plan| plan.numbers());
+    let made = archive::make_plan(schema, number);
+    let mut text = made.text();
+    if !agree(&wanted, &made) {
+        text += " with other numbers";
+    }
+    Some(text)
 }
 
 fn fixed_place_line(inputs: &[&str]) -> Result<Answers, String> {
@@ -266,8 +289,10 @@ fn fixed_place_line(inputs: &[&str]) -> Result<Answers, String> {
     })
 }
 
-fn archive_fixed_place(_schema: &[u8], _number: usize, _column: usize) -> Option<String> {
-    None
+fn archive_fixed_place(schema: &[u8], number: usize, column: usize) -> Option<String> {
+    let place =
+        archive::make_plan(schema, number).and_then(|plan| archive::fixed_place(&plan, column));
+    Some(place.text())
 }
 
 fn write_original_line(inputs: &[&str]) -> Result<Answers, String> {

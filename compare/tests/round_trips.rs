@@ -243,6 +243,24 @@ fn the_plan_says_what_the_walk_says() {
 }
 
 #[test]
+fn plans_and_their_numbers_go_by_the_columns() {
+    let mut random = Random::new(11);
+    let mut same = 0;
+    for _ in 0..ROUNDS {
+        let (schema, file) = generate::schema_file(&mut random);
+        let numbers: Vec<usize> = (0..file.schema_count()).collect();
+        for pair in numbers.windows(2) {
+            let [first, second] = [pair[0], pair[1]].map(|number| file.columns_at(number));
+            let plans = [pair[0], pair[1]].map(|number| make_plan(&schema, number).unwrap());
+            assert_eq!(plans[0] == plans[1], first == second);
+            assert_eq!(plans[0].numbers() == plans[1].numbers(), first == second);
+            same += usize::from(first == second);
+        }
+    }
+    assert!(same > 0);
+}
+
+#[test]
 fn an_update_changes_what_it_carries() {
     let mut random = Random::new(3);
     for _ in 0..ROUNDS {

@@ -29,6 +29,47 @@ pub struct PlanColumn {
     bit: u8,
 }
 
+/// All that a plan holds, as numbers in the order of the C interface. Each list has a number for
+/// each column, or one for each stop or nullable chapter; the rest are 0.
+#[repr(C)]
+#[derive(Clone, Copy, Debug, PartialEq, Eq)]
+pub struct PlanNumbers {
+    pub count: usize,
+    /// The bytes of the presence map.
+    pub map: usize,
+    /// How many nullable chapters there are.
+    pub chapters: usize,
+    pub codes: [u8; MAX_COLUMNS],
+    pub flags: [u8; MAX_COLUMNS],
+    pub maxima: [u16; MAX_COLUMNS],
+    pub gaps: [u16; MAX_COLUMNS],
+    /// How many nullable columns come before each column.
+    pub bits: [u8; MAX_COLUMNS],
+    /// How many stops come before each column.
+    pub before: [u8; MAX_COLUMNS],
+    /// The indexes of the stops.
+    pub stops: [u8; MAX_COLUMNS],
+    /// The bits of the nullable chapters.
+    pub marked: [u8; MAX_COLUMNS],
+}
+
+impl PlanNumbers {
+    /// The plan of nothing.
+    pub const BLANK: PlanNumbers = PlanNumbers {
+        count: 0,
+        map: 0,
+        chapters: 0,
+        codes: [0; MAX_COLUMNS],
+        flags: [0; MAX_COLUMNS],
+        maxima: [0; MAX_COLUMNS],
+        gaps: [0; MAX_COLUMNS],
+        bits: [0; MAX_COLUMNS],
+        before: [0; MAX_COLUMNS],
+        stops: [0; MAX_COLUMNS],
+        marked: [0; MAX_COLUMNS],
+    };
+}
+
 /// A row whose presence map is checked, for look-ups through the plan it was opened with.
 #[derive(Clone, Copy, Debug)]
 pub struct OpenRow<'a> {
@@ -98,6 +139,34 @@ impl Plan {
     /// The plan's columns.
     pub fn columns(&self) -> &[PlanColumn] {
         &self.columns[..self.count]
+    }
+
+    /// The size of the presence map of a row, which is where its fields start.
+    pub fn map_size(&self) -> usize {
+        self.presence.size()
+    }
+
+    /// All that the plan holds, as numbers.
+    pub fn numbers(&self) -> PlanNumbers {
+        let mut marked = [0; MAX_COLUMNS];
+        let mut chapters = 0;
+        for bit in self.presence.chapter_bits() {
+            marked[chapters] = bit as u8;
+            chapters += 1;
+        }
+        PlanNumbers {
+            count: self.count,
+            map: self.map_size(),
+            chapters,
+            codes: self.columns.map(|planned| planned.column.code),
+            flags: self.columns.map(|planned| planned.column.nullable.into()),
+            maxima: self.columns.map(|planned| planned.column.maximum),
+            gaps: self.columns.map(|planned| planned.gap),
+            bits: self.columns.map(|planned| planned.bit),
+            before: self.columns.map(|planned| planned.stops_before),
+            stops: self.stops,
+            marked,
+        }
     }
 
     /// Where the field of a column starts in every row that has it; `None` if that depends on
@@ -195,6 +264,48 @@ mod tests {
         assert_eq!(plan.fixed_place(2), Ok(None));
         let error = Error::new(ErrorCode::NoSuch, 0, Input::Column);
         assert_eq!(plan.fixed_place(3), Err(error));
+    }
+
+    #[test]
+    fn numbers_hold_all_of_a_plan() {
+        let start = |numbers: &[u8]| {
+            let mut array = [0; MAX_COLUMNS];
+            array[..numbers.len()].copy_from_slice(numbers);
+            array
+        };
+        let wide = |numbers: &[u8]| start(numbers).map(u16::from);
+        let numbers = PlanNumbers {
+            count: 3,
+            map: 1,
+            chapters: 0,
+            codes: start(&[0x03, 0x82, 0x11]),
+            flags: start(&[0, 1, 1]),
+            maxima: wide(&[0, 10, 0]),
+            gaps: wide(&[1, 5, 0]),
+            bits: start(&[0, 0, 1]),
+            before: start(&[0, 0, 1]),
+            stops: start(&[1, 2]),
+            marked: start(&[]),
+        };
+        assert_eq!(plan_of(&S).numbers(), numbers);
+        // A nullable byte, a chapter, a nullable chapter, a four-byte integer.
+        let schema = [
+            4, 0x11, 1, 0x88, 1, 0, 7, 1, 0x11, 0, 0x88, 1, 1, 8, 1, 0x11, 0, 3, 0,
+        ];
+        let numbers = PlanNumbers {
+            count: 4,
+            map: 1,
+            chapters: 1,
+            codes: start(&[0x11, 0x88, 0x88, 0x03]),
+            flags: start(&[1, 0, 1, 0]),
+            maxima: wide(&[]),
+            gaps: wide(&[1, 0, 0, 0]),
+            bits: start(&[0, 1, 1, 2]),
+            before: start(&[0, 1, 1, 1]),
+            stops: start(&[0]),
+            marked: start(&[1]),
+        };
+        assert_eq!(plan_of(&schema).numbers(), numbers);
     }
 
     #[test]

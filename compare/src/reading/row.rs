@@ -59,8 +59,9 @@ pub(super) fn check_column(columns: &[Column], column: usize) -> Result<(), Erro
     Ok(())
 }
 
-/// The field of the column at `index`, which must be under the count.
-pub(super) fn look_up_in(columns: &[Column], row: &[u8], index: usize) -> Result<Answer, Error> {
+/// The field of the column at `index`, which must be under the count, in a row within the size
+/// limit.
+pub fn look_up_in(columns: &[Column], row: &[u8], index: usize) -> Result<Answer, Error> {
     let map = PresenceMap::of(columns);
     let presence = map.read(row, 0, Input::Row)?;
     let (before, asked) = (&columns[..index], &columns[index]);
@@ -111,6 +112,11 @@ impl PresenceMap {
             bits += 1;
         }
         PresenceMap { bits, chapters }
+    }
+
+    /// The bits of nullable chapters, in order.
+    pub(super) fn chapter_bits(&self) -> impl Iterator<Item = usize> + '_ {
+        (0..self.bits).filter(|bit| self.chapters & top_bit(*bit) != 0)
     }
 
     /// The map's size in bytes.

@@ -1,8 +1,10 @@
 //! Randomised comparison: valid, damaged and random inputs for every call of the archive,
 //! each held against the reading.
 
+mod forged;
 mod header;
 mod options;
+mod plans;
 mod row_data;
 mod row_writers;
 mod rows;
@@ -33,7 +35,7 @@ const BETWEEN_LOOKS: u64 = 64;
 type Trial = fn(&mut Random, &mut Run);
 
 /// Trials of one case each.
-const SHORT: [Trial; 13] = [
+const SHORT: [Trial; 14] = [
     header::read_case,
     header::write_case,
     header::write_short_case,
@@ -47,22 +49,26 @@ const SHORT: [Trial; 13] = [
     rows::update_end_case,
     row_writers::original_case,
     row_writers::update_case,
+    plans::check_case,
 ];
 
 /// Trials that ask one row for all its columns, once in `BETWEEN_ROWS`.
-const ROWS: [Trial; 3] = [
+const ROWS: [Trial; 5] = [
     rows::look_up_case,
     rows::look_update_case,
     rows::current_case,
+    plans::look_up_case,
+    forged::look_up_case,
 ];
 const BETWEEN_ROWS: usize = 8;
 
 /// Trials that ask one file for all that it holds. They take their turn once in `BETWEEN_LONG`,
 /// so that the time is not all theirs.
-const LONG: [Trial; 3] = [
+const LONG: [Trial; 4] = [
     schema::columns_case,
     schema::column_case,
     schema::child_case,
+    plans::make_case,
 ];
 const BETWEEN_LONG: usize = 32;
 
@@ -123,6 +129,8 @@ fn run_oversized(run: &mut Run) {
     options::oversized(&mut bytes, run);
     schema::oversized(&mut bytes, run);
     rows::oversized(&bytes, run);
+    plans::oversized(&bytes, run);
+    forged::oversized(&bytes, run);
     row_writers::oversized(&bytes, run);
 }
 

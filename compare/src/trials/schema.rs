@@ -71,7 +71,7 @@ static NUMBERS: Call = Call {
 };
 
 /// The codes of a call that takes a file and a number.
-const WITH_NUMBER: &[ErrorCode] = &[
+pub(super) const WITH_NUMBER: &[ErrorCode] = &[
     ErrorCode::Truncated,
     ErrorCode::NumberForm,
     ErrorCode::NumberRange,
@@ -261,7 +261,7 @@ fn write_back(ours: &[u32], theirs: &[u32], file: &[u8], complaints: &mut Vec<St
 }
 
 /// The schemas of a file; 1 if it is refused.
-fn schema_count(bytes: &[u8]) -> usize {
+pub(super) fn schema_count(bytes: &[u8]) -> usize {
     read_schema(bytes).map_or(1, |counts| counts.schemas)
 }
 
@@ -411,7 +411,7 @@ fn file_numbers(random: &mut Random) -> Vec<u32> {
 }
 
 /// Gives one number another value: a near one, one of the list, one at a limit, any.
-fn change_number(random: &mut Random, numbers: &mut [u32]) {
+pub(super) fn change_number(random: &mut Random, numbers: &mut [u32]) {
     let at = random.below(numbers.len());
     let limits = [
         0, 1, 2, 64, 65, 0x87, 0x88, 0x8B, 127, 128, 16_383, 16_384, 32_767, 32_768, 2_097_151,

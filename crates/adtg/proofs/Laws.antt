@@ -21,7 +21,7 @@ use Rattle.schema.specs.Tree.{mostColumns}
 use Rattle.schema.specs.Reader.{fileOf}
 use Rattle.schema.specs.Schemas.{Schema, schema, asColumn, schemasOf, readSchemas, schemaAt}
 use Rattle.schema.specs.Questions.{withSchema, Selected, selected, selectedOf, columnsOf, toldFound}
-use Rattle.schema.proofs.SchemaLists.{SchemasRange, no-schema, a-schema, schemas-range}
+use Rattle.schema.proofs.SchemaLists.{EntriesRange, SchemaRange, SchemasRange, no-schema, a-schema, schemas-range}
 use Rattle.schema.proofs.Theorem.{file-of-iff}
 use Rattle.schema.proofs.Questions.{with-alone, answer-by}
 use Rattle.row.specs.Rows.{lookUp, lookUpRow}
@@ -31,16 +31,16 @@ use Rattle.adtg.specs.InSchema.{both, inSchema, columnsBeside, Beside}
 use Rattle.adtg.specs.Rows.{lookUpIn}
 use Rattle.adtg.specs.Updates.{sizesOf, currentIn}
 
--- a schema of a list whose schemas have few columns
-few-at : {ss : List Schema} → SchemasRange ss → (k : ℕ) → k < length ss → length (getD ss k (schema 0 []) .columns) ≤ mostColumns
-few-at no-schema k h = absurd (omega arith)
-few-at (a-schema r rs) zero h = r .count .few
-few-at (a-schema r rs) (suc k) h = few-at rs k (omega arith)
+-- a schema of a list whose schemas are in their ranges
+range-at : {ss : List Schema} → SchemasRange ss → (k : ℕ) → k < length ss → SchemaRange (getD ss k (schema 0 []))
+range-at no-schema k h = absurd (omega arith)
+range-at (a-schema r rs) zero h = r
+range-at (a-schema r rs) (suc k) h = range-at rs k (omega arith)
 
--- a schema of a file has few columns
-pub few-columns : (b : Bytes) (k : ℕ) (x : Selected) → AreBytes b → selectedOf b k ≡ ok x → length (x .columns) ≤ mostColumns
+-- a schema of a file has few columns, and they are in their ranges
+pub selected-range : (b : Bytes) (k : ℕ) (x : Selected) → AreBytes b → selectedOf b k ≡ ok x → (length (x .columns) ≤ mostColumns) × EntriesRange (x .columns)
 unfolding selectedOf readSchemas schemaAt
-few-columns b k x bytes h =
+selected-range b k x bytes h =
     let (ss, e1, e2) = bind-ok (about input.Schema (readSchemas b)) _ x (sym (with-alone b k _) ∙ h) in
     let (s, e3, e4) = bind-ok (about input.SchemaNumber (schemaAt ss k)) _ x e2 in
     let (t, e5, e6) = bind-ok (fileOf b) _ ss (about-ok input.Schema (readSchemas b) ss e1) in
@@ -48,10 +48,10 @@ few-columns b k x bytes h =
     let l = ltb-true k (length ss) (check-ok _ _ _ u e7) in
     let r : schemasOf t ≡ ss = ok-ok e6 in
     let good = file-of-iff b t bytes .0 e5 .1 in
-    let few : length (getD ss k (schema 0 []) .columns) ≤ mostColumns = few-at {ss = ss} (rw (← r) (schemas-range good)) k l in
+    let range : SchemaRange (getD ss k (schema 0 [])) = range-at {ss = ss} (rw (← r) (schemas-range good)) k l in
     let p : getD ss k (schema 0 []) ≡ s = ok-ok e8 in
     let q : selected ss (s .columns) ≡ x = ok-ok e4 in
-    rw (← q) (rw (← p) few)
+    rw (← q) (rw (← p) (range .count .few, range .columns))
 
 -- all sizes, in their order
 abbrev pub allSizes : Bytes → Read (Unit {0}) → Read (Unit {0})
@@ -64,7 +64,7 @@ module _ (file : Bytes) (sizes : Read (Unit {0})) (number : ℕ) where
   selection = allSizes file sizes >>= λ u. selectedOf file number
 
   -- a question of the selected schema
-  by-selection : {A : Type 0} (ask : List Column → Read A) → inSchema file sizes number ask ≡ (selection >>= λ x. ask (map asColumn (x .columns)))
+  pub by-selection : {A : Type 0} (ask : List Column → Read A) → inSchema file sizes number ask ≡ (selection >>= λ x. ask (map asColumn (x .columns)))
   unfolding withSchema
   by-selection ask = go (about input.Schema (sized file)) sizes
     where
@@ -115,7 +115,7 @@ module _ {file : Bytes} {sizes : Read (Unit {0})} {number : ℕ} {r : ColumnsRea
         let (u, e1, e2) = bind-ok (allSizes file sizes) (λ u. selectedOf file number) x e in
         let (v, e3, e4) = bind-ok (about input.Schema (sized file)) (λ u. sizes) u e1 in
         let d : layout (map asColumn (x .columns)) ≡ r .columns = ok-ok q in
-        let n : length (map asColumn (x .columns)) ≤ 64 = omega (arith, length-map (x .columns) asColumn, few-columns file number x bytes e2) in (
+        let n : length (map asColumn (x .columns)) ≤ 64 = omega (arith, length-map (x .columns) asColumn, selected-range file number x bytes e2 .0) in (
           e4,
           by-selection file sizes number ask
               ∙ ap (λ (s : Read Selected). s >>= λ x. ask (map asColumn (x .columns))) e

@@ -1,11 +1,36 @@
 // An answer as sixteen numbers and a status.
 ghost use mathlib.Core.Path.{_≡_};
 ghost use Prim.Native.Nat.{ℕ};
+ghost use mathlib.Core.List.{[], _∷_};
 ghost use Rattle.wire.specs.Output.{toldWritten};
 ghost use Rattle.wire.specs.Read.{refused};
-ghost use Rattle.adtg_c.specs.Answers.{Answered, sizeValues, noValues};
+ghost use Rattle.adtg_c.specs.Answers.{Answered, padded, sizeValues, noValues};
 use wire::error::Error;
 use wire::output::Written;
+
+// Five numbers as an answer, and zeros.
+pub fn tell(a: usize, b: usize, c: usize, d: usize, e: usize) -> [u64; 16]
+    ensures { λ r. ⌜ r ≡ padded (a ∷ b ∷ c ∷ d ∷ e ∷ []) ⌝ }
+{
+    [
+        a as u64,
+        b as u64,
+        c as u64,
+        d as u64,
+        e as u64,
+        0,
+        0,
+        0,
+        0,
+        0,
+        0,
+        0,
+        0,
+        0,
+        0,
+        0,
+    ]
+}
 
 // The answer of a call that is refused.
 pub fn refuse(e: Error, out: &mut [u64; 16]) -> u32

@@ -4,5 +4,6 @@
 
 pub mod answer;
 pub mod head;
+pub mod plans;
 pub mod rows;
 pub mod schemas;

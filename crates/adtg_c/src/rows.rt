@@ -1,6 +1,5 @@
 // Rows, with the schema file that says their columns: look-ups, ends, the number of fields, the current value, the writers.
 ghost use mathlib.Core.Path.{_≡_};
-ghost use mathlib.Core.List.{[], _∷_};
 ghost use lib.ListN.{length};
 ghost use Rattle.wire.specs.Integers.{toldInt};
 ghost use Rattle.wire.specs.Output.{sizeOf};
@@ -9,10 +8,11 @@ ghost use Rattle.encode.specs.Writers.{outputWith};
 ghost use Rattle.adtg.specs.Rows.{lookUpIn, fieldCountIn, rowEndIn};
 ghost use Rattle.adtg.specs.Updates.{lookUpdateIn, updateEndIn, currentIn};
 ghost use Rattle.adtg.specs.Writers.{writeOriginalIn, writeUpdateIn};
-ghost use Rattle.adtg_c.specs.Answers.{Answered, padded, sizeValues};
+ghost use Rattle.adtg_c.specs.Answers.{Answered, sizeValues};
 ghost use Rattle.adtg_c.specs.RowAnswers.{lookUpValues, updateValues, currentValues};
 use crate::answer::answer_written;
 use crate::answer::refuse;
+use crate::answer::tell;
 use adtg::rows::field_count;
 use adtg::rows::look_up;
 use adtg::rows::row_end;
@@ -26,32 +26,8 @@ use row::rows::LookUp;
 use row::updates::UpdateLookUp;
 use wire::integer::IntRead;
 
-// Five numbers as an answer, and zeros.
-fn tell(a: usize, b: usize, c: usize, d: usize, e: usize) -> [u64; 16]
-    ensures { λ r. ⌜ r ≡ padded (a ∷ b ∷ c ∷ d ∷ e ∷ []) ⌝ }
-{
-    [
-        a as u64,
-        b as u64,
-        c as u64,
-        d as u64,
-        e as u64,
-        0,
-        0,
-        0,
-        0,
-        0,
-        0,
-        0,
-        0,
-        0,
-        0,
-        0,
-    ]
-}
-
 // The answer of a call that gives one number.
-fn answer_int(read: IntRead, out: &mut [u64; 16]) -> u32
+pub fn answer_int(read: IntRead, out: &mut [u64; 16]) -> u32
     ensures { λ r. ⌜ Answered sizeValues (toldInt read) r (now (out .exit)) ⌝ }
 {
     match read {

@@ -1,0 +1,18 @@
+-- By computing it.
+-- Assumes nothing.
+use mathlib.Core.Path.{refl}
+use Rattle.wire.specs.Bits.{mapBytes}
+use Rattle.column.specs.Layout.{padded}
+use Rattle.row.specs.Presence.{nullables, presenceBytes, marks}
+use Rattle.plan.specs.Plans.{gapsFrom, stopsFrom, stopsBefore, chapterBits, planOf}
+use borrow.Author.Needs.{needs}
+use Rattle.adtg.proofs.plans.blank_plan.Statement.{statement}
+use Rattle.adtg.proofs.plans.blank_plan.Tie as tie
+
+returns : tie.Need-returns
+unfolding planOf padded presenceBytes mapBytes nullables marks gapsFrom stopsFrom stopsBefore chapterBits
+returns c = refl
+
+pub blank-plan-spec : {M : Type 1} → statement M
+blank-plan-spec = tie.close (tie.spec
+    returns)

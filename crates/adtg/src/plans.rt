@@ -1,0 +1,67 @@
+// Plans, with the schema file and the schema number that they are made from or compared with. What is asked of a plan alone, with a
+// row or without, is in crate `plan`.
+ghost use mathlib.Core.Path.{_≡_};
+ghost use Rattle.wire.specs.Read.{toldMatch};
+ghost use Rattle.adtg.specs.Plans.{planIn, blank, Planned, Checked};
+use crate::columns_beside;
+use plan::compare::check;
+use plan::make::make;
+use plan::plan::Plan;
+use schema::file::ColumnsRead;
+use schema::file::Found;
+use wire::bytes::Matched;
+
+// A plan that was made; beside an error the blank plan.
+pub struct PlanRead {
+    pub found: Found,
+    pub plan: Plan,
+}
+
+// The plan of no columns.
+fn blank_plan() -> Plan
+    ensures { λ r. ⌜ r ≡ blank ⌝ }
+{
+    Plan {
+        count: 0,
+        map: 0,
+        chapters: 0,
+        codes: [0u8; 64],
+        flags: [0u8; 64],
+        maxima: [0u16; 64],
+        gaps: [0u16; 64],
+        bits: [0u8; 64],
+        before: [0u8; 64],
+        stops: [0u8; 64],
+        marked: [0u8; 64],
+    }
+}
+
+// The plan of schema `number`.
+pub fn make_plan(file: &[u8], number: usize) -> PlanRead
+    ensures { λ r. ⌜ Planned (now (file .entry)) number r ⌝ }
+{
+    let read = columns_beside(file, number, Matched::Same);
+    let found = read.found;
+    match found {
+        Found::Refused(e) => PlanRead {
+            found: Found::Refused(e),
+            plan: blank_plan(),
+        },
+        Found::Yes => PlanRead {
+            found: Found::Yes,
+            plan: make(read.columns),
+        },
+    }
+}
+
+// Whether a plan is the one that schema `number` makes now; else error 17.
+pub fn check_plan(plan: Plan, file: &[u8], number: usize) -> Matched
+    ensures { λ r. ⌜ Checked plan (planIn (now (file .entry)) number) (toldMatch r) ⌝ }
+{
+    let read = columns_beside(file, number, Matched::Same);
+    let found = read.found;
+    match found {
+        Found::Refused(e) => Matched::Refused(e),
+        Found::Yes => check(plan, read.columns),
+    }
+}

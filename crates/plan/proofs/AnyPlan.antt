@@ -1,0 +1,140 @@
+-- What a look-up through any plan tells of a field that it finds, also through one that no call makes: it lies in the row, and where
+-- the plan's own columns fix its place, it starts there.
+-- Assumes nothing.
+use Prim.Native.Nat.{ℕ, zero, suc, _+_, _≤_, _<_}
+use mathlib.Core.List.{List, [], _∷_}
+use mathlib.Core.Bool.{Bool, true, false, true≢false}
+use mathlib.Core.Path.{_≡_, refl, sym, ap, _∙_}
+use mathlib.Core.Logic.{⊎-elim}
+use native.Mathlib.Omega.{arith}
+use native.Mathlib.Nat.{eq-or-lt-of-le}
+use lib.ListN.{length}
+use lib.Dec.{ltb}
+use borrow.Author.Tests.{ltb-true}
+use Rattle.wire.specs.declared.error.Input.the-variants as input
+use Rattle.wire.specs.Read.{Bytes, ok, _>>=_, pick, about}
+use Rattle.wire.proofs.Pieces.{bind-ok, about-ok, ok-ok}
+use Rattle.column.specs.declared.field.Field.{Field}
+use Rattle.column.specs.Columns.{isChapter, prefixBytes}
+use Rattle.column.specs.Fields.{fieldAt}
+use Rattle.column.proofs.Laws.{field-told}
+use Rattle.row.specs.Presence.{present}
+use Rattle.row.specs.Rows.{Place, place, past, reached, arrive, field, null, chapter}
+use Rattle.row.proofs.Found.{chapter-field, null-field, field-field}
+use Rattle.plan.specs.declared.plan.Plan.{Plan}
+use Rattle.plan.specs.Plans.{isStop, plannedColumn, plannedMark, plannedGap, visit, visits, stopsTo, jumped, plannedKnown, plannedOpen, plannedAnswer, plannedLookUp, FixedPlace, fixed, moving, noStops, fixedPlace}
+use Rattle.plan.proofs.Arrays.{plannedField}
+
+-- What a look-up through a plan that finds a field tells: where the stops led, and the column's own field there.
+pub record Landed (p : Plan) (row : Bytes) (k : ℕ) (f : Field) : Type 0 where
+  pub place : Place
+  pub own : Field
+  pub way : visits p row k (stopsTo p k) (record { at = 0; prefixes = 0 }) ≡ ok place
+  pub there : fieldAt (plannedColumn p k) row (place .at + plannedGap p k) ≡ ok own
+  pub same : f ≡ reached place own
+
+module _ (p : Plan) (row : Bytes) (k : ℕ) where
+  field-landed : (f : Field) → plannedField p row k ≡ ok (field f) → Landed p row k f
+  unfolding jumped arrive
+  field-landed f h =
+      let (w, e1, f1) = bind-ok (jumped p row k) _ (field f) h in
+      let (v, e2, f2) = bind-ok (visits p row k (stopsTo p k) (place 0 0)) _ w e1 in
+      let q : place (v .at + plannedGap p k) (v .prefixes) ≡ w = ok-ok f2 in
+      let (g, e3, f3) = bind-ok (arrive (plannedColumn p k) row w) _ (field f) f1 in
+      let (o, e4, f4) = bind-ok (fieldAt (plannedColumn p k) row (w .at)) _ g e3 in
+      let s : g ≡ f = field-field f3 in
+      let r : reached w o ≡ g = ok-ok f4 in
+      record {
+        place = v;
+        own = o;
+        way = e2;
+        there = ap (λ (w : Place). fieldAt (plannedColumn p k) row (w .at)) q ∙ e4;
+        same = sym (ap (λ (w : Place). reached w o) q ∙ r ∙ s);
+      }
+
+  pub answer-landed : (f : Field) → plannedAnswer p row k ≡ ok (field f) → Landed p row k f
+  unfolding plannedAnswer
+  answer-landed f h = go (isChapter (plannedColumn p k)) (present row (plannedMark p k)) h
+    where
+      go :
+          (c t : Bool) →
+          pick c (ok chapter) (pick t (plannedField p row k) (ok null)) ≡ ok (field f) →
+          Landed p row k f
+      go true t e = absurd (chapter-field e)
+      go false false e = absurd (null-field e)
+      go false true e = field-landed f e
+
+  pub landed : (f : Field) → plannedLookUp p row k ≡ ok (field f) → Landed p row k f
+  unfolding plannedLookUp
+  landed f h =
+      let (u, e1, f1) = bind-ok (plannedKnown p k) _ (field f) h in
+      let (s, e2, f2) = bind-ok (about input.Row (plannedOpen p row)) _ (field f) f1 in
+      answer-landed f (about-ok input.Row (plannedAnswer p row k) (field f) f2)
+
+  -- a field that is found lies in the row
+  pub planned-inside : (f : Field) → plannedLookUp p row k ≡ ok (field f) → (f .start ≤ f .end) × (f .end ≤ length row)
+  planned-inside f h =
+      let d = landed f h in
+      let t = field-told (plannedColumn p k) row (d .place .at + plannedGap p k) (d .there) in
+      rw (d .same) (t .forward, t .ends)
+
+-- By a plan whose columns before k are no stops, no visit moves.
+
+none-stops : (p : Plan) (k : ℕ) → noStops p k ≡ true → (i : ℕ) → i < k → isStop (plannedColumn p i) ≡ false
+unfolding noStops
+none-stops p zero h i l = absurd (omega arith)
+none-stops p (suc k) h i l = go (isStop (plannedColumn p k)) refl h (none-stops p k)
+  where
+    go :
+        (t : Bool) → isStop (plannedColumn p k) ≡ t → pick t false (noStops p k) ≡ true →
+        (noStops p k ≡ true → (i : ℕ) → i < k → isStop (plannedColumn p i) ≡ false) → isStop (plannedColumn p i) ≡ false
+    go true e x r = absurd (true≢false (sym x))
+    go false e x r = ⊎-elim (λ (y : i ≡ k). ap (λ (j : ℕ). isStop (plannedColumn p j)) y ∙ e) (λ (y : i < k). r x i y) (eq-or-lt-of-le (omega arith))
+
+module _ (p : Plan) (row : Bytes) (k : ℕ) (none : noStops p k ≡ true) where
+  visit-still : (i : ℕ) (w : Place) → visit p row k i w ≡ ok w
+  unfolding visit
+  visit-still i w = go (ltb i k) refl
+    where
+      go :
+          (t : Bool) → ltb i k ≡ t →
+          pick t
+          (pick (isStop (plannedColumn p i))
+          (pick (present row (plannedMark p i)) (fieldAt (plannedColumn p i) row (w .at + plannedGap p i) >>= (λ (f : Field). ok (past w f)))
+          (ok (place (w .at + plannedGap p i) (w .prefixes)))) (ok w)) (ok w)
+          ≡ ok w
+      go true e = rw (none-stops p k none i (ltb-true _ _ e)) refl
+      go false e = refl
+
+  visits-still : (l : List ℕ) (w : Place) → visits p row k l w ≡ ok w
+  unfolding visits
+  visits-still [] w = refl
+  visits-still (i ∷ l) w = rw (visit-still i w) (visits-still l w)
+
+-- a place by the two tests: the column is a chapter, nothing before it moves
+abbrev pub placeBy : (c t : Bool) → ℕ → FixedPlace
+placeBy c t x = pick c moving (pick t (fixed x) moving)
+
+-- what a fixed place tells of the tests
+pub named : (c t : Bool) {y x : ℕ} → ok (placeBy c t y) ≡ ok (fixed x) → (t ≡ true) × (y ≡ x)
+named true t e = let z : _≡_ {A = ℕ} 0 1 = cc in absurd (omega arith)
+named false true e = (refl, cc)
+named false false e = let z : _≡_ {A = ℕ} 0 1 = cc in absurd (omega arith)
+
+fixed-told :
+    (p : Plan) (k x : ℕ) → fixedPlace p k ≡ ok (fixed x) → (noStops p k ≡ true) × (plannedGap p k + prefixBytes (plannedColumn p k) ≡ x)
+unfolding fixedPlace
+fixed-told p k x h =
+    let (u, e, f) = bind-ok (plannedKnown p k) _ (fixed x) h in
+    named (isChapter (plannedColumn p k)) (noStops p k) f
+
+-- Where the plan's own columns fix the place of a column, a field that is found starts there.
+pub planned-placed :
+    (p : Plan) (row : Bytes) (k : ℕ) (f : Field) (x : ℕ) → fixedPlace p k ≡ ok (fixed x) → plannedLookUp p row k ≡ ok (field f) → f .start ≡ x
+planned-placed p row k f x e h =
+    let (n, q) = fixed-told p k x e in
+    let d = landed p row k f h in
+    let z : place 0 0 ≡ d .place = ok-ok (sym (visits-still p row k n (stopsTo p k) (place 0 0)) ∙ d .way) in
+    let y : 0 ≡ d .place .at = ap (λ (w : Place). w .at) z in
+    let t = field-told (plannedColumn p k) row (d .place .at + plannedGap p k) (d .there) in
+    ap (λ (g : Field). g .start) (d .same) ∙ omega (arith, t .starts)

@@ -1,0 +1,326 @@
+-- The jump: a look-up through the plan of some columns answers as the walk over them.
+-- Assumes nothing.
+use Prim.Native.Nat.{ℕ, zero, suc, _+_, _/_, _≤_, _<_}
+use mathlib.Core.List.{List, [], _∷_}
+use mathlib.Core.Bool.{Bool, true, false, not, true≢false}
+use mathlib.Core.Path.{_≡_, refl, sym, ap, _∙_}
+use native.Mathlib.Omega.{arith}
+use lib.ListN.{length, getD, take}
+use lib.Dec.{ltb, leb}
+use borrow.Author.Tests.{lt-ltb, leb-true, leb-false, le-leb}
+use Rattle.wire.specs.declared.error.Input.the-variants as input
+use Rattle.wire.specs.Read.{Bytes, Read, ok, bad, _>>=_, pick, check, about, sized, whole}
+use Rattle.wire.specs.Bits.{bitSet}
+use Rattle.wire.proofs.Pieces.{about-ok}
+use Rattle.column.specs.declared.column.Column.{Column}
+use Rattle.column.specs.declared.field.Field.{Field}
+use Rattle.column.specs.declared.types.Kind.{Kind}
+use Rattle.column.specs.declared.types.Kind.the-variants.{Fixed, Variable, Wide, Chapter, Unknown}
+use Rattle.column.specs.Types.{widthOf, chapterKind}
+use Rattle.column.specs.Columns.{kind, width, isVariable, isChapter, isNullable}
+use Rattle.column.specs.Fields.{bytesAt, fieldAt}
+use Rattle.column.specs.Layout.{mostColumns}
+use Rattle.column.proofs.Laws.{bytes-short, bytes-fit, field-fixed, field-past, field-told}
+use Rattle.row.specs.Presence.{noColumn, one, presenceBytes, Mark, mark, marks, markOf, present, chapterPresent, clear}
+use Rattle.row.specs.Rows.{Place, place, past, reached, step, walk, arrive, opened, walked, Answer, field, null, chapter, fieldOf, columnOf, known, lookUp, lookUpRow}
+use Rattle.row.proofs.Laws.{present-chapter, present-always, step-absent}
+use Rattle.row.proofs.Found.{known-ok, opened-ok}
+use Rattle.plan.specs.declared.plan.Plan.{Plan}
+use Rattle.plan.specs.Plans.{isStop, stopsFrom, chapterBits, planOf, plannedColumn, plannedMark, plannedGap, visit, visits, stopsTo, jumped, unset, plannedKnown, plannedOpen, plannedAnswer, plannedLookUp, plannedRow}
+use Rattle.plan.proofs.Arrays.{plannedField, stopCount, Holds, more, planned-holds, count-planned, chapters-planned, column-planned, mark-planned, stops-planned}
+
+-- Readers one after the other.
+
+-- two go on alike where the first answers
+pub bind-when : {A B : Type 0} (r : Read A) (f g : A → Read B) → ((a : A) → r ≡ ok a → f a ≡ g a) → r >>= f ≡ r >>= g
+bind-when (ok a) f g h = h a refl
+bind-when (bad e o i) f g h = refl
+
+bind-same : {A B : Type 0} (r : Read A) (f g : A → Read B) → ((a : A) → f a ≡ g a) → r >>= f ≡ r >>= g
+bind-same r f g h = bind-when r f g (λ a _. h a)
+
+bind-unit : {A : Type 0} (r : Read A) → r >>= (λ (a : A). ok a) ≡ r
+bind-unit (ok a) = refl
+bind-unit (bad e o i) = refl
+
+pub bind-bind : {A B C : Type 0} (r : Read A) (f : A → Read B) (g : B → Read C) → (r >>= f) >>= g ≡ r >>= (λ (a : A). f a >>= g)
+bind-bind (ok a) f g = refl
+bind-bind (bad e o i) f g = refl
+
+-- four of them, grouped anew
+regroup :
+    {A B C D : Type 0} (r : Read A) (f : A → Read B) (g : B → Read C) (h : C → Read D) →
+    r >>= (λ (a : A). (f a >>= g) >>= h) ≡ (r >>= f) >>= (λ (b : B). g b >>= h)
+regroup (ok a) f g h = bind-bind (f a) g h
+regroup (bad e o i) f g h = refl
+
+-- What a column is, by whether it is a stop.
+
+never : {A : Type 0} → true ≡ false → A
+never h = absurd (true≢false h)
+
+chapter-width : (c : Column) → isChapter c ≡ true → width c ≡ 0
+chapter-width c = go (kind c)
+  where
+    go : (k : Kind) → chapterKind k ≡ true → widthOf k ≡ 0
+    go (Fixed w) h = never (sym h)
+    go Variable h = refl
+    go Wide h = refl
+    go Chapter h = refl
+    go Unknown h = refl
+
+module _ (c : Column) where
+  stop-plain : isStop c ≡ true → isChapter c ≡ false
+  unfolding isStop
+  stop-plain h = go (isChapter c) refl h
+    where
+      go : (t : Bool) → isChapter c ≡ t → pick t false (pick (isNullable c) true (isVariable c)) ≡ true → isChapter c ≡ false
+      go true e x = never (sym x)
+      go false e x = e
+
+  -- no stop and no chapter: not nullable, of fixed width
+  no-stop : isStop c ≡ false → isChapter c ≡ false → (isNullable c ≡ false) × (isVariable c ≡ false)
+  unfolding isStop
+  no-stop h x = go (isNullable c) refl (sym (rw x) ∙ h)
+    where
+      go : (t : Bool) → isNullable c ≡ t → pick t true (isVariable c) ≡ false → (isNullable c ≡ false) × (isVariable c ≡ false)
+      go true e y = never y
+      go false e y = (e, y)
+
+step-present :
+    (has : Mark → Bool) (row : Bytes) (m : Mark) (v : Place) → has m ≡ true →
+    step has row m v ≡ fieldAt (m .column) row (v .at) >>= (λ (f : Field). ok (past v f))
+unfolding step
+step-present has row m v e = rw e
+
+-- The state that stands for a position, also for one past the row's end: there the walk has ended with error 1 at the row's length.
+abbrev pub standing : Bytes → ℕ → ℕ → Read Place
+standing row p n = pick (leb p (length row)) (ok (place p n)) (bad 1 (length row) input.Single)
+
+-- the same behind a stop, no gap counted yet
+abbrev behind : Bytes → Place → Read Place
+behind row v = standing row (v .at + 0) (v .prefixes)
+
+module _ (row : Bytes) (p n : ℕ) where
+  pub standing-in : p ≤ length row → standing row p n ≡ ok (place p n)
+  standing-in h = rw (le-leb p (length row) h)
+
+  -- a field from there: past the row's end it is short too
+  from-standing : {A : Type 0} (c : Column) (g : Place → Field → Read A) →
+      standing row p n >>= (λ (v : Place). fieldAt c row (v .at) >>= g v) ≡ fieldAt c row p >>= g (place p n)
+  from-standing {A} c g = go (leb p (length row)) refl
+    where
+      go :
+          (t : Bool) → leb p (length row) ≡ t →
+          pick t (ok (place p n)) (bad 1 (length row) input.Single) >>= (λ (v : Place). fieldAt c row (v .at) >>= g v) ≡ fieldAt c row p >>= g (place p n)
+      go true e = refl
+      go false e = rw (field-past c row p (leb-false _ _ e)) refl
+
+  arrive-standing : (c : Column) → standing row p n >>= arrive c row ≡ arrive c row (place p n)
+  unfolding arrive
+  arrive-standing c = from-standing c (λ (v : Place) (f : Field). ok (reached v f))
+
+  -- going nowhere
+  pub standing-here : standing row p n >>= (λ (v : Place). ok v) ≡ standing row (p + 0) n
+  standing-here = let z : p ≡ p + 0 = omega arith in bind-unit (standing row p n) ∙ ap (λ (q : ℕ). standing row q n) z
+
+  -- a field of fixed width moves the position by its width, in the row or out of it
+  past-bytes : (w : ℕ) → bytesAt row p w 0 >>= (λ (f : Field). ok (past (place p n) f)) ≡ standing row (p + w) n
+  past-bytes w = go (leb (p + w) (length row)) refl
+    where
+      go : (t : Bool) → leb (p + w) (length row) ≡ t → bytesAt row p w 0 >>= (λ (f : Field). ok (past (place p n) f)) ≡ standing row (p + w) n
+      go true e =
+          let h : p + w ≤ length row = leb-true _ _ e in
+          let z : n + 0 ≡ n = omega arith in
+          rw (bytes-fit row p w 0 h, e, z) refl
+      go false e = rw (bytes-short row p w 0 (leb-false _ _ e), e) refl
+
+  -- a column of the walk, from such a state
+  module _ (c : Column) (b : ℕ) where
+    step-missing : present row (mark c b) ≡ false → standing row p n >>= step (present row) row (mark c b) ≡ standing row p n
+    step-missing e =
+        bind-same (standing row p n) (step (present row) row (mark c b)) (λ (v : Place). ok v) (λ v. step-absent (present row) row (mark c b) v e)
+        ∙ bind-unit (standing row p n)
+
+    step-there :
+        present row (mark c b) ≡ true →
+        standing row p n >>= step (present row) row (mark c b) ≡ fieldAt c row p >>= (λ (f : Field). ok (past (place p n) f))
+    step-there e =
+        bind-same (standing row p n) (step (present row) row (mark c b)) (λ (v : Place). fieldAt c row (v .at) >>= (λ (f : Field). ok (past v f)))
+        (λ v. step-present (present row) row (mark c b) v e)
+        ∙ from-standing c (λ (v : Place) (f : Field). ok (past v f))
+
+    -- a column that is no stop moves the position by its width; a chapter's is 0
+    pub step-quiet : isStop c ≡ false → standing row p n >>= step (present row) row (mark c b) ≡ standing row (p + width c) n
+    step-quiet h = go (isChapter c) refl
+      where
+        go : (t : Bool) → isChapter c ≡ t → standing row p n >>= step (present row) row (mark c b) ≡ standing row (p + width c) n
+        go true e =
+            let z : p ≡ p + width c = omega (arith, chapter-width c e) in
+            step-missing (present-chapter row c b e) ∙ ap (λ (q : ℕ). standing row q n) z
+        go false e =
+            let (x, y) = no-stop c h e in
+            step-there (present-always row c b e x) ∙ ap (λ (r : Read Field). r >>= (λ (f : Field). ok (past (place p n) f))) (field-fixed c row p y) ∙ past-bytes (width c)
+
+-- behind a field the walk stands in the row
+past-field :
+    (c : Column) (row : Bytes) (p n : ℕ) →
+    fieldAt c row p >>= (λ (f : Field). ok (past (place p n) f))
+    ≡ (fieldAt c row p >>= (λ (f : Field). ok (past (place p n) f))) >>= (behind row)
+past-field c row p n = go (fieldAt c row p) refl
+  where
+    go :
+        (r : Read Field) → fieldAt c row p ≡ r →
+        r >>= (λ (f : Field). ok (past (place p n) f))
+        ≡ (r >>= (λ (f : Field). ok (past (place p n) f))) >>= (behind row)
+    go (ok f) e =
+        let z : f .end + 0 ≡ f .end = omega arith in
+        rw z (sym (standing-in row (f .end) (n + f .prefixes) (field-told c row p e .ends)))
+    go (bad e o i) h = refl
+
+module _ (p : Plan) (row : Bytes) (k : ℕ) where
+  -- a stop: where the walk goes, the visit goes
+  visit-stop :
+      (c : Column) (i g b : ℕ) (w : Place) → i < k → isStop c ≡ true → plannedColumn p i ≡ c → plannedGap p i ≡ pick (isChapter c) 0 g → getD (p .bits) i 0 ≡ b →
+      standing row (w .at + g) (w .prefixes) >>= step (present row) row (mark c b)
+      ≡ visit p row k i w >>= (behind row)
+  unfolding visit
+  visit-stop c i g b w l h ec eg eb =
+      let gg : plannedGap p i ≡ g = eg ∙ ap (λ (t : Bool). pick t 0 g) (stop-plain c h) in
+      rw (lt-ltb i k l, ec, gg, eb, h) (go (present row (mark c b)) refl)
+    where
+      go :
+          (t : Bool) → present row (mark c b) ≡ t →
+          standing row (w .at + g) (w .prefixes) >>= step (present row) row (mark c b)
+          ≡ pick t (fieldAt c row (w .at + g) >>= (λ (f : Field). ok (past w f))) (ok (place (w .at + g) (w .prefixes)))
+          >>= (behind row)
+      go true e = step-there row (w .at + g) (w .prefixes) c b e ∙ past-field c row (w .at + g) (w .prefixes)
+      go false e =
+          let z : w .at + g ≡ w .at + g + 0 = omega arith in
+          step-missing row (w .at + g) (w .prefixes) c b e ∙ ap (λ (q : ℕ). standing row q (w .prefixes)) z
+
+  -- the last column: its own gap, then its field
+  abbrev landing : Place → Read Field
+  landing v = arrive (plannedColumn p k) row (place (v .at + plannedGap p k) (v .prefixes))
+
+  -- From column i on, gap g in front of it: the walk to column k and the visits to the stops on the way land at the same field.
+  lands :
+      (cs : List Column) (i g b j : ℕ) (w : Place) → Holds p i g b cs → k ≡ i + j → j < length cs → isChapter (getD cs j noColumn) ≡ false →
+      standing row (w .at + g) (w .prefixes) >>= (λ (v : Place). walk (present row) row j (marks b cs) v >>= arrive (getD cs j noColumn) row)
+      ≡ visits p row k (take (stopCount cs j) (stopsFrom i cs)) w >>= landing
+  unfolding walk marks visits stopCount stopsFrom
+  lands [] i g b j w o e h x = absurd (omega arith)
+  lands (c ∷ cs) i g b zero w (more ec eg eb o) e h x =
+      let z : k ≡ i = omega arith in
+      let y : plannedColumn p k ≡ c = ap (plannedColumn p) z ∙ ec in
+      let u : plannedGap p k ≡ g = ap (plannedGap p) z ∙ eg ∙ ap (λ (t : Bool). pick t 0 g) x in
+      arrive-standing row (w .at + g) (w .prefixes) c
+      ∙ sym (ap (λ (d : Column). arrive d row (place (w .at + plannedGap p k) (w .prefixes))) y ∙ ap (λ (q : ℕ). arrive c row (place (w .at + q) (w .prefixes))) u)
+  lands (c ∷ cs) i g b (suc j) w (more ec eg eb o) e h x =
+      regroup (standing row (w .at + g) (w .prefixes)) (step (present row) row (mark c b)) (walk (present row) row j (marks (b + one (isNullable c)) cs))
+      (arrive (getD cs j noColumn) row)
+      ∙ go (isStop c) refl (λ g v y. lands cs (suc i) g (b + one (isNullable c)) j v y (omega arith) (omega arith) x) o
+    where
+      rest : Place → Read Field
+      rest u = walk (present row) row j (marks (b + one (isNullable c)) cs) u >>= arrive (getD cs j noColumn) row
+
+      go :
+          (t : Bool) → isStop c ≡ t →
+          ((g : ℕ) (v : Place) → Holds p (suc i) g (b + one (isNullable c)) cs →
+          standing row (v .at + g) (v .prefixes) >>= rest ≡ visits p row k (take (stopCount cs j) (stopsFrom (suc i) cs)) v >>= landing) →
+          Holds p (suc i) (pick t 0 (g + width c)) (b + one (isNullable c)) cs →
+          (standing row (w .at + g) (w .prefixes) >>= step (present row) row (mark c b)) >>= rest
+          ≡ visits p row k (take (pick t (suc (stopCount cs j)) (stopCount cs j)) (pick t (i ∷ stopsFrom (suc i) cs) (stopsFrom (suc i) cs))) w >>= landing
+      go true s r y =
+          ap (λ (q : Read Place). q >>= rest) (visit-stop c i g b w (omega arith) s ec eg eb)
+          ∙ bind-bind (visit p row k i w) (behind row) rest
+          ∙ bind-same (visit p row k i w) _ _ (λ v. r 0 v y)
+          ∙ sym (bind-bind (visit p row k i w) (visits p row k (take (stopCount cs j) (stopsFrom (suc i) cs))) landing)
+      go false s r y =
+          let z : w .at + g + width c ≡ w .at + (g + width c) = omega arith in
+          ap (λ (q : Read Place). q >>= rest) (step-quiet row (w .at + g) (w .prefixes) c b s ∙ ap (λ (q : ℕ). standing row q (w .prefixes)) z)
+          ∙ r (g + width c) w y
+
+-- The checks in front.
+
+-- the listed bits of the chapters are those that the walk asks for
+unset-alike : (row : Bytes) (ms : List Mark) → unset row (chapterBits ms) ≡ clear (chapterPresent row) 12 0 ms
+unfolding unset chapterBits clear chapterPresent check
+unset-alike row [] = refl
+unset-alike row (m ∷ ms) = go (isChapter (m .column)) (isNullable (m .column)) (unset-alike row ms)
+  where
+    go :
+        (c n : Bool) → unset row (chapterBits ms) ≡ clear (chapterPresent row) 12 0 ms →
+        unset row (pick c (pick n (m .bit ∷ chapterBits ms) (chapterBits ms)) (chapterBits ms))
+        ≡ check (not (pick c (pick n (bitSet row (m .bit)) false) false)) 12 (0 + m .bit / 8) >>= (λ _. clear (chapterPresent row) 12 0 ms)
+    go true true r =
+        let z : m .bit / 8 ≡ 0 + m .bit / 8 = omega arith in
+        ap (λ (o : ℕ). check (not (bitSet row (m .bit))) 12 o >>= (λ _. unset row (chapterBits ms))) z
+        ∙ bind-same (check (not (bitSet row (m .bit))) 12 (0 + m .bit / 8)) _ _ (λ _. r)
+    go true false r = r
+    go false n r = r
+
+module _ (cs : List Column) (few : length cs ≤ mostColumns) where
+  pub known-alike : (k : ℕ) → plannedKnown (planOf cs) k ≡ known cs k
+  unfolding plannedKnown known
+  known-alike k = ap (λ (n : ℕ). about input.Column (check (ltb k n) 18 0)) (count-planned cs few)
+
+  -- a row opens by the plan as by the columns
+  pub opens-alike : (row : Bytes) → plannedOpen (planOf cs) row ≡ opened cs row 0
+  unfolding plannedOpen opened planOf
+  opens-alike row =
+      ap (λ (l : List ℕ). whole row 0 (presenceBytes cs) >>= (λ (s : ℕ). unset row l >>= (λ _. ok s))) (chapters-planned cs few)
+      ∙ ap (λ (r : Read (Unit {0})). whole row 0 (presenceBytes cs) >>= (λ (s : ℕ). r >>= (λ _. ok s))) (unset-alike row (marks 0 cs))
+
+  module _ (row : Bytes) (k : ℕ) (known : k < length cs) (map : presenceBytes cs ≤ length row) where
+    field-alike : isChapter (getD cs k noColumn) ≡ false → jumped (planOf cs) row k >>= arrive (plannedColumn (planOf cs) k) row ≡ fieldOf cs row k
+    unfolding jumped fieldOf walked
+    field-alike x =
+        let l = lands (planOf cs) row k cs 0 (presenceBytes cs) 0 k (place 0 0) (planned-holds cs few) (omega arith) known x in
+        bind-bind (visits (planOf cs) row k (stopsTo (planOf cs) k) (place 0 0)) (λ (w : Place). ok (place (w .at + plannedGap (planOf cs) k) (w .prefixes)))
+        (arrive (plannedColumn (planOf cs) k) row)
+        ∙ ap (λ (l : List ℕ). visits (planOf cs) row k l (place 0 0) >>= landing (planOf cs) row k) (stops-planned cs few k known)
+        ∙ sym l
+        ∙ ap (λ (r : Read Place). r >>= (λ (v : Place). walk (present row) row k (marks 0 cs) v >>= arrive (getD cs k noColumn) row))
+        (standing-in row (0 + presenceBytes cs) 0 (omega arith))
+
+    answer-alike : plannedAnswer (planOf cs) row k ≡ columnOf cs row k
+    unfolding plannedAnswer columnOf
+    answer-alike =
+        ap
+        (λ (c : Column).
+        pick (isChapter c) (ok chapter)
+        (pick (present row (plannedMark (planOf cs) k)) (plannedField (planOf cs) row k) (ok null)))
+        (column-planned cs few k known)
+        ∙ go (isChapter (getD cs k noColumn)) refl
+      where
+        go :
+            (t : Bool) → isChapter (getD cs k noColumn) ≡ t →
+            pick t (ok chapter)
+            (pick (present row (plannedMark (planOf cs) k)) (plannedField (planOf cs) row k) (ok null))
+            ≡ pick t (ok chapter) (pick (present row (markOf cs k)) (fieldOf cs row k >>= (λ (f : Field). ok (field f))) (ok null))
+        go true e = refl
+        go false e =
+            ap (λ (m : Mark). pick (present row m) (plannedField (planOf cs) row k) (ok null)) (mark-planned cs few k known)
+            ∙ ap (λ (r : Read Answer). pick (present row (markOf cs k)) r (ok null))
+            (sym (bind-bind (jumped (planOf cs) row k) (arrive (plannedColumn (planOf cs) k) row) (λ (f : Field). ok (field f)))
+            ∙ ap (λ (r : Read Field). r >>= (λ (f : Field). ok (field f))) (field-alike e))
+
+-- The jump: the whole answer of the walk, for every row and every number of a column.
+pub jump : (cs : List Column) (row : Bytes) (k : ℕ) → length cs ≤ mostColumns → plannedLookUp (planOf cs) row k ≡ lookUp cs row k
+unfolding plannedLookUp lookUp
+jump cs row k few =
+    ap (λ (r : Read (Unit {0})). r >>= (λ _. about input.Row (plannedOpen (planOf cs) row) >>= (λ _. about input.Row (plannedAnswer (planOf cs) row k))))
+    (known-alike cs few k)
+    ∙ bind-when (known cs k) _ _
+    (λ u e.
+    ap (λ (r : Read ℕ). about input.Row r >>= (λ _. about input.Row (plannedAnswer (planOf cs) row k))) (opens-alike cs few row)
+    ∙ bind-when (about input.Row (opened cs row 0)) _ _
+    (λ s f.
+    let (x, y, z) = opened-ok cs row 0 s (about-ok input.Row (opened cs row 0) s f) in
+    ap (about input.Row) (answer-alike cs few row k (known-ok cs k u e) (omega arith))))
+
+-- in any row
+pub jump-row : (cs : List Column) (row : Bytes) (k : ℕ) → length cs ≤ mostColumns → plannedRow (planOf cs) row k ≡ lookUpRow cs row k
+unfolding plannedRow lookUpRow
+jump-row cs row k few = bind-same (about input.Row (sized row)) _ _ (λ _. jump cs row k few)

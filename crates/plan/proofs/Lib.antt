@@ -1,0 +1,15 @@
+pub mod Laws
+pub mod Arrays
+pub mod Jump
+pub mod AnyPlan
+pub mod Plans
+pub mod Places
+pub mod Answers
+pub mod Inside
+pub mod Handled
+pub mod Held
+pub mod Fill
+pub mod Sizes
+pub mod Made
+pub mod Alike
+pub mod Named

@@ -1,0 +1,6 @@
+pub mod Plans
+pub mod Places
+pub mod Handles
+pub mod Compare
+pub mod Told
+pub mod Lent

@@ -1,0 +1,59 @@
+// The fixed place of a column's field, which a plan names without any row.
+ghost use mathlib.Core.Path.{_≡_};
+ghost use mathlib.Core.List.{[]};
+ghost use Prim.Native.Nat.{_≤_, _<_};
+ghost use Rattle.plan.specs.Plans.{noStops, fixedPlace};
+ghost use Rattle.plan.specs.Lent.{lent};
+ghost use Rattle.plan.specs.Told.{toldPlace};
+use crate::column_of;
+use crate::gap_size;
+use crate::lesser;
+use crate::look::is_stop;
+use crate::plan::Plan;
+use wire::error::Error;
+use wire::error::ErrorKind;
+use wire::error::Input;
+
+// Where a column's field starts in every row that has it, or that no place is fixed.
+pub enum PlaceRead {
+    Fixed(usize),
+    Moving,
+    Refused(Error),
+}
+
+// Whether none of the first `k` columns is a stop.
+fn no_stops<'a>(codes: &'a [u8; 64], flags: &'a [u8; 64], maxima: &'a [u16; 64], k: usize) -> bool
+    requires { ⌜ k ≤ 64 ⌝ }
+    ensures { λ r. ⌜ r ≡ noStops (lent (now (codes .entry)) (now (flags .entry)) (now (maxima .entry)) [] []) k ⌝ }
+{
+    let mut i = k;
+    while 0 < i {
+        if is_stop(column_of(codes, flags, maxima, i - 1)) {
+            return false;
+        }
+        i -= 1;
+    }
+    true
+}
+
+// The fixed place of column `k`, by a plan; none for a chapter, nor behind a stop.
+pub fn fixed_place(plan: Plan, k: usize) -> PlaceRead
+    ensures { λ r. ⌜ toldPlace r ≡ fixedPlace plan k ⌝ }
+{
+    let n = lesser(plan.count, 64);
+    if n <= k {
+        return PlaceRead::Refused(Error {
+            kind: ErrorKind::Missing,
+            offset: 0,
+            input: Input::Column,
+        });
+    }
+    let column = column_of(&plan.codes, &plan.flags, &plan.maxima, k);
+    if column.is_chapter() {
+        return PlaceRead::Moving;
+    }
+    if no_stops(&plan.codes, &plan.flags, &plan.maxima, k) {
+        return PlaceRead::Fixed(gap_size(plan.gaps[k]) + column.prefix_bytes());
+    }
+    PlaceRead::Moving
+}
