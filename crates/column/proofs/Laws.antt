@@ -1,13 +1,14 @@
 -- Laws of columns and of one field at a position of a row. The functions' proofs and the layers above cite these.
 -- Assumes nothing.
 use Prim.Native.Nat.{ℕ, zero, suc, _+_, _*_, _-_, _%_, _≤_, _<_}
-use mathlib.Core.List.{[], _∷_}
+use mathlib.Core.List.{List, [], _∷_}
 use mathlib.Core.Bool.{Bool, true, false, true≢false}
 use mathlib.Core.Path.{_≡_, refl, sym, ap, _∙_}
 use native.Mathlib.Omega.{arith, by-contra, not-le}
 use lib.ListN.{length, take}
 use lib.Seq.{take-take}
-use borrow.Author.Tests.{lt-ltb, le-ltb, le-leb, lt-leb, ne-eqb}
+use lib.Dec.{eqb}
+use borrow.Author.Tests.{lt-ltb, le-ltb, le-leb, lt-leb, ne-eqb, eqb-true}
 use Rattle.wire.specs.declared.error.ErrorKind.{ErrorKind}
 use Rattle.wire.specs.declared.error.ErrorKind.the-variants as error
 use Rattle.wire.specs.declared.error.Input.{Input}
@@ -20,8 +21,9 @@ use Rattle.wire.proofs.Pieces.{bad-ok}
 use Rattle.column.specs.declared.column.Column.{Column}
 use Rattle.column.specs.declared.field.Field.{Field}
 use Rattle.column.specs.declared.types.Kind.{Kind}
-use Rattle.column.specs.declared.types.Kind.the-variants.{Variable, Wide}
-use Rattle.column.specs.Columns.{kind, width, isVariable, prefixSize, prefixBytes, lengthErrorOf, lengthError}
+use Rattle.column.specs.declared.types.Kind.the-variants.{Variable, Wide, Unknown}
+use Rattle.column.specs.Types.{Entry, types, kindIn, kindOf, variableKind, chapterKind}
+use Rattle.column.specs.Columns.{kind, width, isVariable, isChapter, prefixSize, prefixBytes, lengthErrorOf, lengthError}
 use Rattle.column.specs.Fields.{field, allowed, bytesAt, variableAt, fieldAt}
 
 -- Answers and errors.
@@ -71,7 +73,52 @@ int-front s t e at size h q =
 pub kind-told : {A : Type 0} (f : Kind → A) {k j v : Kind} → k ≡ j → k ≡ v → f v ≡ f j
 kind-told f e g = ap f (sym g ∙ e)
 
+-- no entry that passes a test has this code
+unfoldable apart : (Kind → Bool) → List Entry → ℕ → Bool
+apart f [] code = true
+apart f (e ∷ es) code = pick (f (e .kind)) (pick (eqb code (e .code)) false (apart f es code)) (apart f es code)
+
+-- so its kind does not pass it
+apart-not : (f : Kind → Bool) (es : List Entry) (code : ℕ) → f Unknown ≡ false → apart f es code ≡ true → f (kindIn es code) ≡ false
+unfolding apart kindIn
+apart-not f [] code u h = u
+apart-not f (e ∷ es) code u h = go (eqb code (e .code)) (f (e .kind)) refl h (apart-not f es code u)
+  where
+    go :
+        (t b : Bool) → f (e .kind) ≡ b → pick b (pick t false (apart f es code)) (apart f es code) ≡ true →
+        (apart f es code ≡ true → f (kindIn es code) ≡ false) → f (pick t (e .kind) (kindIn es code)) ≡ false
+    go true true x y r = absurd (true≢false (sym y))
+    go true false x y r = x
+    go false true x y r = r y
+    go false false x y r = r y
+
 module _ (c : Column) where
+  -- a chapter by its code
+  pub chapter-code : eqb (c .code) 0x88 ≡ isChapter c
+  unfolding kindOf kindIn types apart
+  chapter-code = go (eqb (c .code) 0x88) refl
+    where
+      go : (t : Bool) → eqb (c .code) 0x88 ≡ t → t ≡ isChapter c
+      go true e = rw (eqb-true (c .code) 0x88 e) refl
+      go false e = sym (apart-not chapterKind types (c .code) refl (rw e refl))
+
+  -- a type of variable length by its code
+  pub bytes-code : c .code ≡ 0x80 → isVariable c ≡ true
+  unfolding kindOf kindIn types
+  bytes-code e = rw e refl
+
+  pub text-code : c .code ≡ 0x81 → isVariable c ≡ true
+  unfolding kindOf kindIn types
+  text-code e = rw e refl
+
+  pub wide-code : (c .code ≡ 0x80 → ⊥) → (c .code ≡ 0x81 → ⊥) → eqb (c .code) 0x82 ≡ isVariable c
+  unfolding kindOf kindIn types apart
+  wide-code a b = go (eqb (c .code) 0x82) refl
+    where
+      go : (t : Bool) → eqb (c .code) 0x82 ≡ t → t ≡ isVariable c
+      go true e = rw (eqb-true (c .code) 0x82 e) refl
+      go false e = sym (apart-not variableKind types (c .code) refl (rw (ne-eqb (c .code) 0x80 a, ne-eqb (c .code) 0x81 b, e) refl))
+
   pub prefix-one : c .maximum < 256 → prefixSize c ≡ 1
   unfolding prefixSize
   prefix-one h = rw (lt-ltb _ _ h)

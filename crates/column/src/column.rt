@@ -23,28 +23,20 @@ impl Column {
     pub fn is_variable(self) -> bool
         ensures { λ r. ⌜ r ≡ isVariable self ⌝ }
     {
-        let code = self.code;
-        match (ColumnType { code }).kind() {
-            Kind::Fixed(_) => false,
-            Kind::Variable => true,
-            Kind::Wide => true,
-            Kind::Chapter => false,
-            Kind::Unknown => false,
+        if self.code == ColumnType::BYTES {
+            return true;
         }
+        if self.code == ColumnType::STR {
+            return true;
+        }
+        self.code == ColumnType::WSTR
     }
 
     // Whether the column is a chapter, which has no field.
     pub fn is_chapter(self) -> bool
         ensures { λ r. ⌜ r ≡ isChapter self ⌝ }
     {
-        let code = self.code;
-        match (ColumnType { code }).kind() {
-            Kind::Fixed(_) => false,
-            Kind::Variable => false,
-            Kind::Wide => false,
-            Kind::Chapter => true,
-            Kind::Unknown => false,
-        }
+        self.code == ColumnType::CHAPTER
     }
 
     // Whether the column may be null.

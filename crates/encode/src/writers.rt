@@ -2,7 +2,7 @@
 ghost use mathlib.Core.Path.{_≡_};
 ghost use mathlib.Core.Bool.{true, false};
 ghost use mathlib.Core.List.{map};
-ghost use Prim.Native.Nat.{ℕ, _+_, _*_, _-_, _^_, _≤_, _<_, min};
+ghost use Prim.Native.Nat.{ℕ, _+_, _*_, _-_, _^_, _≤_, _<_};
 ghost use lib.ListN.{length, getD, drop};
 ghost use Rattle.wire.specs.Read.{Bytes, limit};
 ghost use Rattle.wire.specs.Integers.{toldInt, intBytes};
@@ -25,6 +25,7 @@ use wire::error::ErrorKind;
 use wire::error::Input;
 use wire::integer::IntRead;
 use wire::integer::put_u32;
+use wire::lesser;
 use wire::output::Written;
 
 // The maps of a row.
@@ -32,16 +33,6 @@ enum Map {
     Presence,
     Update,
     Force,
-}
-
-// The lesser of two numbers.
-fn lesser(a: usize, b: usize) -> usize
-    ensures { λ r. ⌜ r ≡ min a b ⌝ }
-{
-    if a < b {
-        return a;
-    }
-    b
 }
 
 // Column `i` of a schema's arrays.

@@ -7,12 +7,12 @@ ghost use Rattle.plan.specs.Lent.{lent};
 ghost use Rattle.plan.specs.Told.{toldPlace};
 use crate::column_of;
 use crate::gap_size;
-use crate::lesser;
 use crate::look::is_stop;
 use crate::plan::Plan;
 use wire::error::Error;
 use wire::error::ErrorKind;
 use wire::error::Input;
+use wire::lesser;
 
 // Where a column's field starts in every row that has it, or that no place is fixed.
 pub enum PlaceRead {

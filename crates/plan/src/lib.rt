@@ -1,6 +1,6 @@
 // Column plans: what a plan holds of a schema's columns, and the look-up through it, which jumps from stop to stop.
 ghost use mathlib.Core.Path.{_≡_};
-ghost use Prim.Native.Nat.{_<_, min};
+ghost use Prim.Native.Nat.{_<_};
 ghost use Rattle.column.specs.Layout.{columnIn};
 use column::column::Column;
 
@@ -10,16 +10,6 @@ pub mod handle;
 pub mod look;
 pub mod make;
 pub mod plan;
-
-// The lesser of two numbers.
-fn lesser(a: usize, b: usize) -> usize
-    ensures { λ r. ⌜ r ≡ min a b ⌝ }
-{
-    if a < b {
-        return a;
-    }
-    b
-}
 
 // Column `i` of a plan's arrays.
 fn column_of<'a>(

@@ -14,7 +14,6 @@ ghost use Rattle.plan.specs.Plans.{isStop, visit, visits, jumped, unset,
 ghost use Rattle.plan.specs.Handles.{openedRow, handled};
 ghost use Rattle.plan.specs.Lent.{lent, lentWay, lentMap, parts, Near, Small, Lies, asked};
 use crate::gap_size;
-use crate::lesser;
 use crate::plan::Plan;
 use column::column::Column;
 use column::field::Field;
@@ -32,6 +31,7 @@ use wire::error::ErrorKind;
 use wire::error::Input;
 use wire::integer::IntRead;
 use wire::integer::wide;
+use wire::lesser;
 
 // Whether places behind a column depend on the row.
 pub fn is_stop(column: Column) -> bool

@@ -9,12 +9,12 @@ ghost use Rattle.column.specs.Layout.{padded, columnsFrom, columnsIn};
 ghost use Rattle.row.specs.Presence.{one, nullables, marks};
 ghost use Rattle.plan.specs.Plans.{gapPast, gapsFrom, stopsFrom, stopsBefore, bitsOf, chapterBits, planOf};
 use crate::column_of;
-use crate::lesser;
 use crate::look::is_stop;
 use crate::plan::Plan;
 use column::column::Column;
 use column::columns::Columns;
 use wire::bits::map_bytes;
+use wire::lesser;
 
 // 1 where so, else 0.
 fn one(so: bool) -> usize

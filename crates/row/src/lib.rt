@@ -2,23 +2,13 @@
 // current value of a changed row. It knows columns and not schema files; whoever has a schema file asks it with the schema's
 // columns.
 ghost use mathlib.Core.Path.{_≡_};
-ghost use Prim.Native.Nat.{_<_, min};
+ghost use Prim.Native.Nat.{_<_};
 ghost use Rattle.column.specs.Layout.{columnIn};
 use column::column::Column;
 
 pub mod current;
 pub mod rows;
 pub mod updates;
-
-// The lesser of two numbers.
-fn lesser(a: usize, b: usize) -> usize
-    ensures { λ r. ⌜ r ≡ min a b ⌝ }
-{
-    if a < b {
-        return a;
-    }
-    b
-}
 
 // Column `i` of a schema's arrays.
 fn column_of<'a>(

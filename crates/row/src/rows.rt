@@ -12,7 +12,6 @@ ghost use Rattle.wire.specs.declared.error.Input.the-variants as input;
 ghost use Rattle.row.specs.declared.rows.LookUp.the-variants as look;
 ghost use Rattle.row.specs.Told.{toldWalk, toldLookUp};
 use crate::column_of;
-use crate::lesser;
 use column::column::Column;
 use column::columns::Columns;
 use column::field::Field;
@@ -26,6 +25,7 @@ use wire::error::Error;
 use wire::error::ErrorKind;
 use wire::error::Input;
 use wire::integer::IntRead;
+use wire::lesser;
 
 // Where a walk stands: the position, and the prefixes counted so far.
 pub enum WalkRead {

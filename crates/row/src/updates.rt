@@ -13,7 +13,6 @@ ghost use Rattle.row.specs.Updates.{numbered, chapterMarked, forceBroken
 ghost use Rattle.row.specs.declared.updates.UpdateLookUp.the-variants as look;
 ghost use Rattle.row.specs.Told.{toldWalk, toldUpdate};
 use crate::column_of;
-use crate::lesser;
 use crate::rows::WalkRead;
 use column::column::Column;
 use column::columns::Columns;
@@ -29,6 +28,7 @@ use wire::error::Error;
 use wire::error::ErrorKind;
 use wire::error::Input;
 use wire::integer::IntRead;
+use wire::lesser;
 
 // What update data say of a column.
 pub enum UpdateLookUp {

@@ -1,8 +1,8 @@
 -- By the test.
 -- Assumes nothing.
 use borrow.Author.Needs.{needs}
-use Rattle.row.proofs.lesser.Statement.{statement}
-use Rattle.row.proofs.lesser.Tie as tie
+use Rattle.wire.proofs.lesser.Statement.{statement}
+use Rattle.wire.proofs.lesser.Tie as tie
 
 returns : tie.Need-returns
 returns c = search needs
