@@ -232,42 +232,12 @@ module _ (has : Mark → Bool) (row : Bytes) where
   columns-next cs i w {v} h e =
       walk-next i (marks 0 cs) w (omega (arith, length-marks 0 cs)) e ∙ ap (λ (m : Mark). step has row m v) (mark-at cs i h)
 
--- The walk of a row at `at` over its columns, by their numbers.
-
-module _ (cs : List Column) (row : Bytes) (at : ℕ) where
-  pub walked-zero : walked cs row at 0 ≡ ok (place (at + presenceBytes cs) 0)
-  unfolding walked
-  walked-zero = walk-zero _ _ _ _
-
-  -- the walk, one column further
-  pub walked-next :
-      (i : ℕ) {w : Place} → i < length cs → walked cs row at i ≡ ok w →
-      walked cs row at (i + 1) ≡ step (present (drop at row)) row (markOf cs i) w
-  unfolding walked
-  walked-next i h e = columns-next (present (drop at row)) row cs i _ h e
-
-  -- the same, whether or not the walk has ended
-  pub walked-suc :
-      (i : ℕ) → i < length cs → walked cs row at (suc i) ≡ walked cs row at i >>= step (present (drop at row)) row (markOf cs i)
-  unfolding walked
-  walked-suc i h =
-      walk-suc (present (drop at row)) row i (marks 0 cs) _ (omega (arith, length-marks 0 cs))
-      ∙ ap (λ (m : Mark). walk (present (drop at row)) row i (marks 0 cs) (place (at + presenceBytes cs) 0) >>= step (present (drop at row)) row m) (mark-at cs i h)
-
-  module _ (i p n : ℕ) (h : i < length cs) (e : walked cs row at i ≡ ok (place p n)) where
-    pub walked-absent : present (drop at row) (markOf cs i) ≡ false → walked cs row at (i + 1) ≡ ok (place p n)
-    walked-absent t = walked-next i h e ∙ step-absent _ _ _ _ t
-
-    module _ (t : present (drop at row) (markOf cs i) ≡ true) where
-      pub walked-field : (f : Field) → fieldAt (getD cs i noColumn) row p ≡ ok f → walked cs row at (i + 1) ≡ ok (place (f .end) (n + f .prefixes))
-      walked-field f g = walked-next i h e ∙ step-field _ _ (markOf cs i) _ f t g
-
-      -- an error on the way to column k ends the walk there
-      pub walked-refused : (k : ℕ) {x o : ℕ} {name : Input} → i < k → fieldAt (getD cs i noColumn) row p ≡ bad x o name → walked cs row at k ≡ bad x o name
-      unfolding walked
-      walked-refused k l g =
-          walk-ended (present (drop at row)) row (i + 1) k (marks 0 cs) _ (omega arith)
-          (walked-next i h e ∙ step-refused _ _ (markOf cs i) _ t g)
+-- the walk of a row at `at` past a field
+pub walked-field :
+    (cs : List Column) (row : Bytes) (at i p n : ℕ) → i < length cs → walked cs row at i ≡ ok (place p n) → present (drop at row) (markOf cs i) ≡ true →
+    (f : Field) → fieldAt (getD cs i noColumn) row p ≡ ok f → walked cs row at (i + 1) ≡ ok (place (f .end) (n + f .prefixes))
+unfolding walked
+walked-field cs row at i p n h e t f g = columns-next (present (drop at row)) row cs i _ h e ∙ step-field _ _ (markOf cs i) _ f t g
 
 -- A row opens, or not.
 
