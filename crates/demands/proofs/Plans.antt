@@ -17,7 +17,7 @@ use Rattle.row.specs.Presence.{noColumn}
 use Rattle.row.specs.Rows.{lookUp, lookUpRow}
 use Rattle.plan.specs.declared.plan.Plan.{Plan}
 use Rattle.plan.specs.Plans.{planOf, plannedRow, fixedPlace}
-use Rattle.plan.specs.Places.{paperPlace}
+use Rattle.plan.specs.Places.{placeOf}
 use Rattle.plan.proofs.Jump.{jump-row}
 use Rattle.plan.proofs.Plans.{same-columns}
 use Rattle.plan.proofs.Places.{place-exact}
@@ -40,7 +40,7 @@ plan-route-is-walk file number p bytes h row k =
 -- The place that the plan names without any row is the one that the paper gives the column.
 pub plan-names-place :
     (file : Bytes) (number : ℕ) (p : Plan) (cs : List Column) → AreBytes file → columnsOf file number ≡ ok cs → planIn file number ≡ ok p → (k : ℕ) →
-    fixedPlace p k ≡ paperPlace cs k
+    fixedPlace p k ≡ placeOf cs k
 plan-names-place file number p cs bytes e h k =
     let q : p ≡ planOf cs = ok-ok (sym h ∙ columns-plan file number cs e) in
     ap (λ (p : Plan). fixedPlace p k) q ∙ place-exact cs k (columns-few file number cs bytes e)

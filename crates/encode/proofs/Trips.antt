@@ -15,7 +15,7 @@ use Rattle.row.specs.Updates.{updateEnd, lookUpdate}
 use Rattle.encode.specs.Entries.{Entry, null, isEntry, entryOf}
 use Rattle.encode.specs.Encoding.{originalBytes, updateData}
 use Rattle.encode.specs.Writers.{inOriginal, inUpdate, entriesIn, writeOriginal, writeUpdate}
-use Rattle.encode.specs.Trips.{Says, says-value, says-null, says-chapter, SaysUpdate, says-new, says-forced, says-unchanged, says-kept, numbersOf, numbersOfUpdate, readOriginal, readUpdate, ReservedZero, UpdateReservedZero}
+use Rattle.encode.specs.Trips.{Says, says-value, says-null, says-chapter, SaysUpdate, says-new, says-forced, says-unchanged, says-chapter-unchanged, numbersOf, numbersOfUpdate, readOriginal, readUpdate, ReservedZero, UpdateReservedZero}
 use Rattle.encode.proofs.Originals as original
 use Rattle.encode.proofs.UpdateData as update
 use Rattle.encode.proofs.Written.{entries-length, writing-ok, Gives, gives-value, rewrites}
@@ -91,7 +91,7 @@ unfolding isEntry entryOf
 update-gives {row} (says-new {v = v} {s = s} {e = e} p l i h) = gives-value row v s e l i h
 update-gives (says-forced p) = record { is = refl; says = refl }
 update-gives (says-unchanged p) = record { is = refl; says = refl }
-update-gives (says-kept p) = record { is = refl; says = refl }
+update-gives (says-chapter-unchanged p) = record { is = refl; says = refl }
 
 -- What was read, given to the writer with the row as its values, is written as the same bytes, where the reserved bits were 0.
 

@@ -21,7 +21,7 @@ use Rattle.row.proofs.UpdateFound.{update-end-told}
 use Rattle.encode.specs.Entries.{Entry, value, null, unchanged}
 use Rattle.encode.specs.Encoding.{pack, fieldsOf, isValue, isChange, isForced, updateBits, forceBits, updateData}
 use Rattle.encode.specs.Writers.{inUpdate, entriesStand}
-use Rattle.encode.specs.Trips.{SaysUpdate, says-new, says-forced, says-unchanged, says-kept, UpdateReservedZero}
+use Rattle.encode.specs.Trips.{SaysUpdate, says-new, says-forced, says-unchanged, says-chapter-unchanged, UpdateReservedZero}
 use Rattle.encode.proofs.Pack.{length-pack, piece-bit, piece-reserved, map-packed}
 use Rattle.encode.proofs.Fields.{stands-fits, fits-stands}
 use Rattle.encode.proofs.Walks.{Each, columnsOf, each-length, each-at, each-by, each-clear, each-stands, clear-at, piece-take, stands-at, Shows, came-end, came-value, Passes, walk-read}
@@ -207,7 +207,7 @@ module _ {cs : List Column} {es : List Entry} {row : Bytes} {b : ℕ} (d : Made 
       go null t ee et i =
           let c : isChapter (getD cs k noColumn) ≡ false = null-plain (getD cs k noColumn) (i .stands) .0 in
           subst (SaysUpdate row (getD cs k noColumn) null) (sym (look-update-null cs row k h b made-end c (i .change) (nulled (i .nulled)))) (says-forced c)
-      go unchanged true ee et i = subst (SaysUpdate row (getD cs k noColumn) unchanged) (sym (look-update-chapter cs row k h b made-end et)) (says-kept et)
+      go unchanged true ee et i = subst (SaysUpdate row (getD cs k noColumn) unchanged) (sym (look-update-chapter cs row k h b made-end et)) (says-chapter-unchanged et)
       go unchanged false ee et i =
           subst (SaysUpdate row (getD cs k noColumn) unchanged) (sym (look-update-unchanged cs row k h b made-end et (i .change))) (says-unchanged et)
 

@@ -26,7 +26,7 @@ pub data SaysUpdate (row : Bytes) (c : Column) : Entry → Read updates.UpdateAn
   says-new : {v : Bytes} {s e n : ℕ} → isChapter c ≡ false → e ≡ s + length v → e ≤ length row → cut row s (length v) ≡ v → SaysUpdate row c (value v) (ok (updates.field (fields.field s e n)))
   says-forced : isChapter c ≡ false → SaysUpdate row c null (ok updates.null)
   says-unchanged : isChapter c ≡ false → SaysUpdate row c unchanged (ok updates.unchanged)
-  says-kept : isChapter c ≡ true → SaysUpdate row c unchanged (ok updates.chapter)
+  says-chapter-unchanged : isChapter c ≡ true → SaysUpdate row c unchanged (ok updates.chapter)
 
 -- what an answer is given as: a field by its two ends in the row itself, so that the row is the values
 abbrev pub numbersOf : Read rows.Answer → List ℕ

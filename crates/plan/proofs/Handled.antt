@@ -19,7 +19,7 @@ use Rattle.row.specs.Rows.{field}
 use Rattle.plan.specs.declared.plan.Plan.{Plan}
 use Rattle.plan.specs.Plans.{unset, plannedKnown, plannedOpen, plannedAnswer, plannedLookUp, plannedRow}
 use Rattle.plan.specs.Lent.{asked}
-use Rattle.plan.specs.Handles.{openedRow, keptLookUp, handled}
+use Rattle.plan.specs.Handles.{openedRow, openedLookUp, handled}
 use Rattle.plan.proofs.Answers.{one-by-one}
 use Rattle.plan.proofs.Inside.{answer-inside, row-inside}
 
@@ -48,7 +48,7 @@ module _ (p : Plan) (start : ℕ) (row : Bytes) (k : ℕ) where
   module _ (s : start ≡ p .map) where
     -- the first checks, then the column
     handled-kept : handled p start row k ≡ asked (p .count) row k >>= (λ (u : Unit {0}). about input.Row (plannedAnswer p row k))
-    unfolding handled keptLookUp plannedKnown asked
+    unfolding handled openedLookUp plannedKnown asked
     handled-kept = rw (eq-eqb start (p .map) s) (one-by-one (about input.Row (sized row)) _ _)
 
     pub handled-refused : {e o : ℕ} {i : Input} → asked (p .count) row k ≡ bad e o i → handled p start row k ≡ bad e o i
@@ -71,7 +71,7 @@ module _ (p : Plan) (row : Bytes) (start : ℕ) where
 
   -- With the plan that opened the row, a look-up through the handle answers as the direct one.
   pub handle-answers : plannedOpen p row ≡ ok start → (k : ℕ) → handled p start row k ≡ plannedRow p row k
-  unfolding handled keptLookUp plannedRow plannedLookUp about
+  unfolding handled openedLookUp plannedRow plannedLookUp about
   handle-answers h k = simp (eq-eqb start (p .map) (opens-at h), h)
 
   pub opened-answers : openedRow p row ≡ ok start → (k : ℕ) → handled p start row k ≡ plannedRow p row k
@@ -82,8 +82,8 @@ module _ (p : Plan) (row : Bytes) (start : ℕ) where
 
 -- With any plan and any start, a field that is found lies in the row.
 module _ (p : Plan) (start : ℕ) (row : Bytes) (k : ℕ) (f : Field) where
-  kept-inside : keptLookUp p row k ≡ ok (field f) → (f .start ≤ f .end) × (f .end ≤ length row)
-  unfolding keptLookUp
+  kept-inside : openedLookUp p row k ≡ ok (field f) → (f .start ≤ f .end) × (f .end ≤ length row)
+  unfolding openedLookUp
   kept-inside h =
       let (u, e, g) = bind-ok (about input.Row (sized row)) _ (field f) h in
       let (v, d, l) = bind-ok (plannedKnown p k) _ (field f) g in
@@ -93,6 +93,6 @@ module _ (p : Plan) (start : ℕ) (row : Bytes) (k : ℕ) (f : Field) where
   unfolding handled
   handled-inside h = go (eqb start (p .map)) h
     where
-      go : (t : Bool) → pick t (keptLookUp p row k) (plannedRow p row k) ≡ ok (field f) → (f .start ≤ f .end) × (f .end ≤ length row)
+      go : (t : Bool) → pick t (openedLookUp p row k) (plannedRow p row k) ≡ ok (field f) → (f .start ≤ f .end) × (f .end ≤ length row)
       go true e = kept-inside e
       go false e = row-inside p row k f e

@@ -19,7 +19,7 @@ use Rattle.row.specs.Presence.{noColumn, one, presenceBytes, mark, marks, prese
 use Rattle.row.specs.Rows.{Place, place, step, walk, walked, field, known, lookUp}
 use Rattle.row.proofs.Found.{known-ok, opened-ok, look-up-told}
 use Rattle.plan.specs.Plans.{isStop, gapsFrom, planOf, plannedColumn, plannedGap, fixed, noStops, fixedPlace}
-use Rattle.plan.specs.Places.{isSteady, allSteady, widths, paperPlace}
+use Rattle.plan.specs.Places.{isSteady, allSteady, widths, placeOf}
 use Rattle.plan.proofs.Arrays.{column-planned, gap-planned}
 use Rattle.plan.proofs.Jump.{bind-when, bind-bind, known-alike, standing, standing-in, standing-here, step-quiet}
 use Rattle.plan.proofs.AnyPlan.{placeBy, named}
@@ -97,8 +97,8 @@ module _ (cs : List Column) (few : length cs ≤ mostColumns) where
       (λ x y. ap (λ (g : ℕ). g + prefixBytes (getD cs k noColumn)) (gap-planned cs few k h ∙ gap-steady (presenceBytes cs) cs k h x y))
 
 -- The plan of some columns names the paper's places.
-pub place-exact : (cs : List Column) (k : ℕ) → length cs ≤ mostColumns → fixedPlace (planOf cs) k ≡ paperPlace cs k
-unfolding fixedPlace paperPlace
+pub place-exact : (cs : List Column) (k : ℕ) → length cs ≤ mostColumns → fixedPlace (planOf cs) k ≡ placeOf cs k
+unfolding fixedPlace placeOf
 place-exact cs k few =
     ap
     (λ (r : Read (Unit {0})).
@@ -145,8 +145,8 @@ walked-steady cs row k {w} l s h =
 
 -- A field that the walk finds in a column with a fixed place starts there; for any number of columns.
 pub place-found :
-    (cs : List Column) (row : Bytes) (k : ℕ) (f : Field) (x : ℕ) → paperPlace cs k ≡ ok (fixed x) → lookUp cs row k ≡ ok (field f) → f .start ≡ x
-unfolding paperPlace
+    (cs : List Column) (row : Bytes) (k : ℕ) (f : Field) (x : ℕ) → placeOf cs k ≡ ok (fixed x) → lookUp cs row k ≡ ok (field f) → f .start ≡ x
+unfolding placeOf
 place-found cs row k f x e h =
     let (u, e1, f1) = bind-ok (known cs k) _ (fixed x) e in
     let (s, q) = named (isChapter (getD cs k noColumn)) (allSteady (take k cs)) f1 in

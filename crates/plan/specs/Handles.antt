@@ -15,12 +15,12 @@ openedRow p row = do
   about input.Row (plannedOpen p row)
 
 -- a look-up that leaves out what opening has checked of the map
-unfoldable pub keptLookUp : Plan → Bytes → ℕ → Read Answer
-keptLookUp p row k = do
+unfoldable pub openedLookUp : Plan → Bytes → ℕ → Read Answer
+openedLookUp p row k = do
   _ ← about input.Row (sized row)
   _ ← plannedKnown p k
   about input.Row (plannedAnswer p row k)
 
 -- A look-up through a handle with this start: where it is the plan's, the row counts as opened; else the look-up is the direct one.
 unfoldable pub handled : Plan → (start : ℕ) → Bytes → ℕ → Read Answer
-handled p start row k = pick (eqb start (p .map)) (keptLookUp p row k) (plannedRow p row k)
+handled p start row k = pick (eqb start (p .map)) (openedLookUp p row k) (plannedRow p row k)
