@@ -1,0 +1,1 @@
+// Row sections: the elements of a section one after the other, and the table of rows that they make.
