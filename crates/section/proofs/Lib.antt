@@ -1,3 +1,4 @@
 pub mod Ends
 pub mod Pending
 pub mod Maps
+pub mod Rows
