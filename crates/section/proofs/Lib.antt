@@ -1,4 +1,5 @@
-pub mod Ends
-pub mod Pending
 pub mod Maps
 pub mod Rows
+pub mod Ends
+pub mod Pending
+pub mod Sections
