@@ -3,3 +3,5 @@ pub mod Rows
 pub mod Ends
 pub mod Pending
 pub mod Sections
+pub mod RowErrors
+pub mod Errors
