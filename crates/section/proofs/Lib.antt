@@ -5,3 +5,4 @@ pub mod Pending
 pub mod Sections
 pub mod RowErrors
 pub mod Errors
+pub mod Demand
