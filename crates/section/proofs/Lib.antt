@@ -6,3 +6,4 @@ pub mod Sections
 pub mod RowErrors
 pub mod Errors
 pub mod Demand
+pub mod Usable
