@@ -7,3 +7,4 @@ pub mod RowErrors
 pub mod Errors
 pub mod Demand
 pub mod Usable
+pub mod Examples
