@@ -7,7 +7,7 @@ use mathlib.Core.List.{List, [], _∷_, _++_}
 use mathlib.Core.Logic.{_↔_}
 use native.Mathlib.Omega.{arith}
 use lib.ListN.{length, drop}
-use Rattle.wire.specs.Read.{Bytes, Read, ok, _>>=_, cut}
+use Rattle.wire.specs.Read.{Bytes, Read, ok, cut}
 use Rattle.wire.proofs.Pieces.{Piece, between, here, bind-ok, ok-ok}
 use Rattle.column.specs.declared.column.Column.{Column}
 use Rattle.column.specs.Fields.{fieldAt}

@@ -11,7 +11,7 @@ use lib.Dec.{eqb}
 use borrow.Author.Tests.{eqb-false}
 use Rattle.wire.specs.declared.error.Input.{Input}
 use Rattle.wire.specs.declared.error.Input.the-variants.{Single}
-use Rattle.wire.specs.Read.{Bytes, Read, ok, bad, _>>=_, check, whole}
+use Rattle.wire.specs.Read.{Bytes, Read, bad, whole}
 use Rattle.wire.proofs.Pieces.{check-ok, whole-ok}
 use Rattle.column.specs.declared.column.Column.{Column}
 use Rattle.row.specs.Rows.{rowEnd}

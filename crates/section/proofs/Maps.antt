@@ -4,14 +4,14 @@
 use Prim.Native.Nat.{ℕ, zero, suc, _+_, _*_, _/_, _%_, _<_, _≤_}
 use mathlib.Core.Path.{_≡_, refl, sym, ap, _∙_, subst}
 use mathlib.Core.List.{List, [], _∷_, _++_}
-use mathlib.Core.Bool.{Bool, true, false, not}
+use mathlib.Core.Bool.{Bool, true, false, not, true≢false}
 use native.Mathlib.Omega.{arith}
 use native.Mathlib.Numerals.{add-one}
 use native.Mathlib.Nat.{add-zero}
 use lib.ListN.{length, drop, getD}
 use lib.Seq.{drop-cons}
 use borrow.Author.Tests.{not-true}
-use Rattle.wire.specs.Read.{Bytes, Read, ok, _>>=_, pick, check}
+use Rattle.wire.specs.Read.{Bytes, ok, pick, check}
 use Rattle.wire.specs.Bits.{bitAt, bitSet, mapBytes}
 use Rattle.wire.proofs.Pieces.{Piece, bind-ok, check-ok}
 use Rattle.column.specs.declared.column.Column.{Column}
@@ -21,7 +21,7 @@ use Rattle.row.specs.Updates.{numbered, chapterMarked, forceBroken, carried}
 use Rattle.section.specs.Grammar.{byteBits, bits, Present, no-column, always, set, unset, a-chapter, Carried, no-column-left, unchanged, value, forced-null}
 
 -- A map has eight bits a byte.
-pub bits-length : (map : Bytes) → length (bits map) ≡ 8 * length map
+bits-length : (map : Bytes) → length (bits map) ≡ 8 * length map
 unfolding bits byteBits
 bits-length [] = refl
 bits-length (b ∷ bs) = omega (arith, bits-length bs)
@@ -95,14 +95,11 @@ chosen test (m ∷ ms) = keep (test m) (m .column) (chosen test ms)
 
 -- The presence map.
 
-never : true ≡ false → ⊥
-never e = let z : _≡_ {A = ℕ} 0 1 = cc in omega arith
-
 present-by :
     (c : Column) (cs qs : List Column) (bs : List Bool) (k : ℕ) (x n t : Bool) → isChapter c ≡ x → isNullable c ≡ n →
     (n ≡ true → drop k bs ≡ t ∷ drop (k + 1) bs) → pick x (pick n t false) false ≡ false → Present cs (drop (k + one n) bs) qs →
     Present (c ∷ cs) (drop k bs) (keep (pick x false (pick n t true)) c qs)
-present-by c cs qs bs k true true true ex en d f p = absurd (never f)
+present-by c cs qs bs k true true true ex en d f p = absurd (true≢false f)
 present-by c cs qs bs k true true false ex en d f p = rw (d refl) (unset en p)
 present-by c cs qs bs k true false t ex en d f p = a-chapter ex en (rw (add-zero k) at p)
 present-by c cs qs bs k false true true ex en d f p = rw (d refl) (set ex en p)
@@ -162,10 +159,10 @@ carried-by :
     pick x t false ≡ false → pick x v false ≡ false → pick v (pick t (not n) true) false ≡ false → Carried cs us′ fs′ qs →
     Carried (c ∷ cs) us fs (keep (pick t (not v) false) c qs)
 carried-by c cs qs us fs us′ fs′ x n false false ex en eu ef a b f p = rw (eu, ef) (unchanged p)
-carried-by c cs qs us fs us′ fs′ x n false true ex en eu ef a b f p = absurd (never f)
-carried-by c cs qs us fs us′ fs′ true n true v ex en eu ef a b f p = absurd (never a)
+carried-by c cs qs us fs us′ fs′ x n false true ex en eu ef a b f p = absurd (true≢false f)
+carried-by c cs qs us fs us′ fs′ true n true v ex en eu ef a b f p = absurd (true≢false a)
 carried-by c cs qs us fs us′ fs′ false n true false ex en eu ef a b f p = rw (eu, ef) (value ex p)
-carried-by c cs qs us fs us′ fs′ false false true true ex en eu ef a b f p = absurd (never f)
+carried-by c cs qs us fs us′ fs′ false false true true ex en eu ef a b f p = absurd (true≢false f)
 carried-by c cs qs us fs us′ fs′ false true true true ex en eu ef a b f p = rw (eu, ef) (forced-null ex en p)
 
 pub carried-sound :

@@ -1,15 +1,14 @@
 -- The readers of fields, of original rows and of update data answer exactly where the grammar has a piece, and answer its end.
 -- Assumes nothing.
 use Prim.Native.Nat.{ℕ, zero, suc, _+_, _*_, _-_, _%_, _≤_}
-use mathlib.Core.Path.{_≡_, refl, sym, ap, _∙_, subst}
+use mathlib.Core.Path.{_≡_, refl, sym, ap, _∙_}
 use mathlib.Core.List.{List, [], _∷_, _++_}
 use mathlib.Core.Bool.{Bool, true, false, true≢false}
 use native.Mathlib.Omega.{arith}
 use lib.ListN.{length, drop}
 use lib.Dec.{leb, eqb}
 use borrow.Author.Tests.{leb-true, eqb-true}
-use Rattle.wire.specs.Read.{Bytes, ok, _>>=_, pick, cut}
-use Rattle.wire.specs.Bits.{mapBytes}
+use Rattle.wire.specs.Read.{Bytes, ok, pick, cut}
 use Rattle.wire.specs.Integers.{valueOf, intAt}
 use Rattle.wire.proofs.Pieces.{Piece, cut-length, piece, join, front, back, bind-ok, ok-ok, cut-is, piece-from, piece-to}
 use Rattle.column.specs.declared.column.Column.{Column}
@@ -19,7 +18,7 @@ use Rattle.column.specs.declared.types.Kind.the-variants.{Fixed, Variable, Wide
 use Rattle.column.specs.Columns.{kind, width, isVariable, prefixSize, prefixBytes, lengthErrorOf, lengthError}
 use Rattle.column.specs.Fields.{field, fieldAt}
 use Rattle.column.proofs.Laws.{Told, prefix-variable, prefix-plain, length-within, wide-within, field-told, field-made}
-use Rattle.row.specs.Presence.{nullables, presenceBytes, Mark, marks, present}
+use Rattle.row.specs.Presence.{presenceBytes, Mark, marks, present}
 use Rattle.row.specs.Rows.{Place, place, past, step, walk, walked, rowEnd}
 use Rattle.row.specs.Updates.{updateBytes, numbered, carried, carriedIn, updateWalked, updateEnd}
 use Rattle.row.proofs.Laws.{bind-of, length-marks, step-absent, step-field, opened-well, end-reached}
@@ -156,7 +155,7 @@ module _ (has : Mark → Bool) (s : Bytes) where
       let (y, G, q) = k (p .inside) in
       rw t (x ++ y, a-field F G, join p q)
 
-  pub walk-sound :
+  walk-sound :
       (k : ℕ) (ms : List Mark) (w v : Place) → length ms ≤ k → w .at ≤ length s → walk has s k ms w ≡ ok v → Has (Fields (chosen has ms)) s (w .at) (v .at)
   unfolding walk chosen
   walk-sound zero [] w v l h r =
@@ -186,7 +185,7 @@ module _ (has : Mark → Bool) (s : Bytes) where
       let (n, r) = next w _ F p in
       (n, bind-of _ (step-absent has s m w t) ∙ r)
 
-  pub walk-complete :
+  walk-complete :
       (k : ℕ) (ms : List Mark) (w : Place) (e : ℕ) {x : Bytes} → length ms ≤ k → Fields (chosen has ms) x → Piece s (w .at) e x → Walks k ms w e
   unfolding walk chosen
   walk-complete zero [] w e l no-fields p =

@@ -11,12 +11,12 @@ use lib.ListN.{length, drop, getD, length-append, length-drop}
 use lib.Seq.{drop-cons, drop-length}
 use lib.Dec.{eqb}
 use borrow.Author.Tests.{eqb-true, eq-eqb}
-use Rattle.wire.specs.Read.{Bytes, Read, ok, bad, _>>=_, pick, check, cut, whole}
+use Rattle.wire.specs.Read.{Bytes, Read, ok, _>>=_, pick, check, cut}
 use Rattle.wire.specs.Integers.{intAt}
 use Rattle.wire.proofs.Laws.{whole-fits}
-use Rattle.wire.proofs.Pieces.{Piece, between, here, bad-ok, bind-ok, check-ok, ok-ok, whole-ok, whole-is, cut-is}
-use Rattle.schema.specs.Schemas.{Schema, childNumber}
-use Rattle.section.specs.Grammar.{IdBytes, Element, parentElement, childElement, changeElement, deleteElement, Before, other, after, columnsAt, Split, done, parent, child, change, delete}
+use Rattle.wire.proofs.Pieces.{between, here, bad-ok, bind-ok, check-ok, ok-ok, whole-ok, whole-is, cut-is}
+use Rattle.schema.specs.Schemas.{Schema}
+use Rattle.section.specs.Grammar.{IdBytes, Element, parentElement, childElement, changeElement, Before, other, after, columnsAt, Split, done, parent, child, change, delete}
 use Rattle.section.specs.Reader.{Token, parentToken, childToken, changeToken, deleteToken, doneToken, unknownToken, tokenOf, knownChild, follows, idAt, element, scan}
 use Rattle.section.proofs.Rows.{row-sound, row-complete, update-sound, update-complete}
 

@@ -1,24 +1,24 @@
 -- The table of an accepted section can be used: each row is of one of the four kinds, and where its starts lead look-ups answer at every
 -- column, by the row's own bytes alone.
 -- Assumes nothing.
-use Prim.Native.Nat.{ℕ, _+_, _≤_, _<_}
-use mathlib.Core.Path.{_≡_, refl, sym, ap, _∙_}
+use Prim.Native.Nat.{ℕ, zero, suc, _+_, _≤_, _<_}
+use mathlib.Core.Path.{_≡_, refl, sym, _∙_}
 use mathlib.Core.List.{List, [], _∷_, _++_, append-nil}
 use mathlib.Core.Option.{some}
 use native.Mathlib.Omega.{arith}
-use lib.ListN.{length, take, drop, length-append}
+use lib.ListN.{length, drop, getD, length-append}
 use lib.Seq.{take-append-seam, take-length, drop-length}
-use Rattle.wire.specs.Read.{Bytes, Read, ok}
-use Rattle.wire.proofs.Pieces.{Piece, here, piece-start}
+use Rattle.wire.specs.Read.{Bytes, ok}
+use Rattle.wire.proofs.Pieces.{Piece, here}
 use Rattle.column.specs.declared.column.Column.{Column}
-use Rattle.row.specs.Rows.{rowEnd, Answer, lookUp}
-use Rattle.row.specs.Updates.{updateEnd, UpdateAnswer, field, null, unchanged, chapter, lookUpdate, Current, updated, forced, original, current}
+use Rattle.row.specs.Rows.{Answer, lookUp}
+use Rattle.row.specs.Updates.{UpdateAnswer, field, null, unchanged, chapter, lookUpdate, Current, updated, forced, original, current}
 use Rattle.row.proofs.Later.{Agree, accepted-later}
 use Rattle.row.proofs.Shift.{inner-row-looks-up, inner-update-looks-up}
 use Rattle.row.proofs.UpdateLaws.{current-updated, current-forced, current-unchanged, current-chapter, from-row}
 use Rattle.row.proofs.UpdateLater.{examined-later}
 use Rattle.schema.specs.Schemas.{Schema, childNumber}
-use Rattle.section.specs.Grammar.{Original, Update, Element, Before, other, after, columnsAt, Split, done, parent, child, change, delete, Row, entry, childKind, updateStart, rows}
+use Rattle.section.specs.Grammar.{Original, Update, Element, Before, after, columnsAt, Split, done, parent, child, change, delete, Row, entry, childKind, updateStart, rows}
 use Rattle.section.specs.Reader.{section}
 use Rattle.section.proofs.Rows.{row-complete, update-complete}
 use Rattle.section.proofs.Sections.{token-here}
@@ -150,3 +150,12 @@ pub rows-usable : (S : List Schema) (s : Bytes) (rs : List Row) → section S s 
 rows-usable S s rs e =
     let (es, sp, z) = table-iff-split S s rs .0 e in
     rw (← z) (split-usable sp s 0 (omega arith) refl)
+
+-- row i of the table
+each-at : {A : Type 0} {P : A → Type 0} {l : List A} (i : ℕ) (d : A) → i < length l → Each P l → P (getD l i d)
+each-at i d h each-end = absurd (omega arith)
+each-at zero d h (each-next p q) = p
+each-at (suc i) d h (each-next p q) = each-at i d (omega arith) q
+
+pub row-usable : (S : List Schema) (s : Bytes) (rs : List Row) → section S s ≡ ok rs → (i : ℕ) → i < length rs → Usable S s (getD rs i (entry 0 0 0 0))
+row-usable S s rs e i h = each-at i (entry 0 0 0 0) h (rows-usable S s rs e)
