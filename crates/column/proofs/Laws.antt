@@ -8,7 +8,7 @@ use native.Mathlib.Omega.{arith, by-contra, not-le}
 use lib.ListN.{length, take}
 use lib.Seq.{take-take}
 use lib.Dec.{eqb}
-use borrow.Author.Tests.{lt-ltb, le-ltb, le-leb, lt-leb, ne-eqb, eqb-true}
+use borrow.Author.Tests.{lt-ltb, le-ltb, le-leb, lt-leb, ne-eqb, eqb-true, eqb-false}
 use Rattle.wire.specs.declared.error.ErrorKind.{ErrorKind}
 use Rattle.wire.specs.declared.error.ErrorKind.the-variants as error
 use Rattle.wire.specs.declared.error.Input.{Input}
@@ -21,7 +21,7 @@ use Rattle.wire.proofs.Pieces.{bad-ok}
 use Rattle.column.specs.declared.column.Column.{Column}
 use Rattle.column.specs.declared.field.Field.{Field}
 use Rattle.column.specs.declared.types.Kind.{Kind}
-use Rattle.column.specs.declared.types.Kind.the-variants.{Variable, Wide, Unknown}
+use Rattle.column.specs.declared.types.Kind.the-variants.{Fixed, Variable, Wide, Chapter, Unknown}
 use Rattle.column.specs.Types.{Entry, types, kindIn, kindOf, variableKind, chapterKind}
 use Rattle.column.specs.Columns.{kind, width, isVariable, isChapter, prefixSize, prefixBytes, lengthErrorOf, lengthError}
 use Rattle.column.specs.Fields.{field, allowed, bytesAt, variableAt, fieldAt}
@@ -139,27 +139,59 @@ module _ (c : Column) where
   unfolding prefixBytes
   prefix-plain v = rw v
 
-  -- the error of a length, at the kind that was found
-  module _ (n : ℕ) {k : Kind} (e : k ≡ kind c) where
-    pub length-told : {v : Kind} {r : ℕ} → k ≡ v → lengthErrorOf v (c .maximum) n ≡ r → r ≡ lengthError c n
+  -- the kind of a type of variable length, by its code
+  kind-wide : c .code ≡ 0x82 → kind c ≡ Wide
+  unfolding kindOf kindIn types
+  kind-wide e = rw e refl
+
+  kind-plain : (c .code ≡ 0x82 → ⊥) → isVariable c ≡ true → kind c ≡ Variable
+  unfolding kindOf kindIn types
+  kind-plain w v = go (eqb (c .code) 0x80) (eqb (c .code) 0x81) refl refl
+    where
+      go : (t u : Bool) → eqb (c .code) 0x80 ≡ t → eqb (c .code) 0x81 ≡ u → kind c ≡ Variable
+      go true u a b = rw (eqb-true (c .code) 0x80 a) refl
+      go false true a b = rw (eqb-true (c .code) 0x81 b) refl
+      go false false a b =
+          absurd (true≢false (sym v ∙ sym (wide-code (eqb-false (c .code) 0x80 a) (eqb-false (c .code) 0x81 b)) ∙ ne-eqb (c .code) 0x82 w))
+
+  -- the error of a length, by the code
+  module _ (n : ℕ) where
+    pub length-told : {v : Kind} {r : ℕ} → kind c ≡ v → lengthErrorOf v (c .maximum) n ≡ r → r ≡ lengthError c n
     unfolding lengthError
-    length-told g h = sym h ∙ kind-told (λ (j : Kind). lengthErrorOf j (c .maximum) n) e g
+    length-told g h = sym h ∙ ap (λ (j : Kind). lengthErrorOf j (c .maximum) n) (sym g)
 
-    pub length-over : k ≡ Variable → c .maximum < n → 14 ≡ lengthError c n
-    length-over g h = length-told g (rw (lt-leb n (c .maximum) h))
+    pub length-free : isVariable c ≡ false → 0 ≡ lengthError c n
+    unfolding lengthError
+    length-free v = go (kind c) v
+      where
+        go : (k : Kind) → variableKind k ≡ false → 0 ≡ lengthErrorOf k (c .maximum) n
+        go (Fixed w) e = refl
+        go Variable e = absurd (true≢false e)
+        go Wide e = absurd (true≢false e)
+        go Chapter e = refl
+        go Unknown e = refl
 
-    pub length-within : k ≡ Variable → n ≤ c .maximum → 0 ≡ lengthError c n
-    length-within g h = length-told g (rw (le-leb n (c .maximum) h))
+    module _ (w : c .code ≡ 0x82 → ⊥) where
+      pub length-over : isVariable c ≡ true → c .maximum < n → 14 ≡ lengthError c n
+      length-over v h = length-told (kind-plain w v) (rw (lt-leb n (c .maximum) h))
 
-    pub wide-over : k ≡ Wide → 2 * c .maximum < n → 14 ≡ lengthError c n
-    wide-over g h = length-told g (rw (lt-leb n (2 * c .maximum) h))
+      pub length-within : n ≤ c .maximum → 0 ≡ lengthError c n
+      length-within h = go (isVariable c) refl
+        where
+          go : (t : Bool) → isVariable c ≡ t → 0 ≡ lengthError c n
+          go true v = length-told (kind-plain w v) (rw (le-leb n (c .maximum) h))
+          go false v = length-free v
 
-    module _ (g : k ≡ Wide) (h : n ≤ 2 * c .maximum) where
-      pub wide-odd : (n % 2 ≡ 0 → ⊥) → 14 ≡ lengthError c n
-      wide-odd o = length-told g (rw (le-leb n (2 * c .maximum) h, ne-eqb _ _ o))
+    module _ (e : c .code ≡ 0x82) where
+      pub wide-over : 2 * c .maximum < n → 14 ≡ lengthError c n
+      wide-over h = length-told (kind-wide e) (rw (lt-leb n (2 * c .maximum) h))
 
-      pub wide-within : n % 2 ≡ 0 → 0 ≡ lengthError c n
-      wide-within o = length-told g (rw (le-leb n (2 * c .maximum) h, o))
+      module _ (h : n ≤ 2 * c .maximum) where
+        pub wide-odd : (n % 2 ≡ 0 → ⊥) → 14 ≡ lengthError c n
+        wide-odd o = length-told (kind-wide e) (rw (le-leb n (2 * c .maximum) h, ne-eqb _ _ o))
+
+        pub wide-within : n % 2 ≡ 0 → 0 ≡ lengthError c n
+        wide-within o = length-told (kind-wide e) (rw (le-leb n (2 * c .maximum) h, o))
 
 -- A field of so many bytes.
 

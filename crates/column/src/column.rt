@@ -2,7 +2,6 @@
 ghost use mathlib.Core.Path.{_≡_};
 ghost use Rattle.column.specs.Columns.{isVariable, isChapter, isNullable, width, prefixSize, prefixBytes, lengthError, toldLength};
 use crate::types::ColumnType;
-use crate::types::Kind;
 use wire::error::ErrorKind;
 
 // A column. Flags are 1 for nullable, else 0; the maximum is that of a variable type.
@@ -76,28 +75,21 @@ impl Column {
     pub fn length_error(self, length: usize) -> LengthCheck
         ensures { λ r. ⌜ toldLength r ≡ lengthError self length ⌝ }
     {
-        let code = self.code;
         let maximum = self.maximum as usize;
-        match (ColumnType { code }).kind() {
-            Kind::Fixed(_) => LengthCheck::Allowed,
-            Kind::Variable => {
-                if maximum < length {
-                    LengthCheck::Refused(ErrorKind::Length)
-                } else {
-                    LengthCheck::Allowed
-                }
+        if self.code == ColumnType::WSTR {
+            if 2 * maximum < length {
+                return LengthCheck::Refused(ErrorKind::Length);
             }
-            Kind::Wide => {
-                if 2 * maximum < length {
-                    LengthCheck::Refused(ErrorKind::Length)
-                } else if length % 2 != 0 {
-                    LengthCheck::Refused(ErrorKind::Length)
-                } else {
-                    LengthCheck::Allowed
-                }
+            if length % 2 != 0 {
+                return LengthCheck::Refused(ErrorKind::Length);
             }
-            Kind::Chapter => LengthCheck::Allowed,
-            Kind::Unknown => LengthCheck::Allowed,
+            return LengthCheck::Allowed;
         }
+        if maximum < length {
+            if self.is_variable() {
+                return LengthCheck::Refused(ErrorKind::Length);
+            }
+        }
+        LengthCheck::Allowed
     }
 }

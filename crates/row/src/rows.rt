@@ -55,7 +55,7 @@ pub fn is_present(column: Column, bit: usize, map: &[u8]) -> bool
 }
 
 // Whether a column with this bit is a chapter whose bit is set.
-fn is_chapter_set(column: Column, bit: usize, map: &[u8]) -> bool
+pub fn is_chapter_set(column: Column, bit: usize, map: &[u8]) -> bool
     ensures { λ r. ⌜ r ≡ chapterPresent (now (map .entry)) (mark column bit) ⌝ }
 {
     if column.is_chapter() {
@@ -68,7 +68,7 @@ fn is_chapter_set(column: Column, bit: usize, map: &[u8]) -> bool
 }
 
 // 1 where so, else 0.
-fn one(so: bool) -> usize
+pub fn one(so: bool) -> usize
     ensures { λ r. ⌜ r ≡ one so ⌝ }
 {
     if so {

@@ -40,7 +40,7 @@ pub enum UpdateLookUp {
 }
 
 // Whether column `i` is a chapter whose bit is set in a map.
-fn is_chapter_marked(column: Column, i: usize, map: &[u8]) -> bool
+pub fn is_chapter_marked(column: Column, i: usize, map: &[u8]) -> bool
     ensures { λ r. ⌜ r ≡ chapterMarked (now (map .entry)) (mark column i) ⌝ }
 {
     if column.is_chapter() {
@@ -50,7 +50,7 @@ fn is_chapter_marked(column: Column, i: usize, map: &[u8]) -> bool
 }
 
 // Whether column `i` is forced to null where it is not changed or may not be null.
-fn breaks_force(column: Column, i: usize, update: &[u8], force: &[u8]) -> bool
+pub fn breaks_force(column: Column, i: usize, update: &[u8], force: &[u8]) -> bool
     ensures { λ r. ⌜ r ≡ forceBroken (now (update .entry)) (now (force .entry)) (mark column i) ⌝ }
 {
     if is_set(force, i) {
@@ -65,7 +65,7 @@ fn breaks_force(column: Column, i: usize, update: &[u8], force: &[u8]) -> bool
 }
 
 // Whether update data hold a field of column `i`.
-fn is_carried(column: Column, i: usize, update: &[u8], force: &[u8]) -> bool
+pub fn is_carried(column: Column, i: usize, update: &[u8], force: &[u8]) -> bool
     ensures { λ r. ⌜ r ≡ carried (now (update .entry)) (now (force .entry)) (mark column i) ⌝ }
 {
     if is_set(update, i) {

@@ -8,3 +8,17 @@ pub mod Errors
 pub mod Demand
 pub mod Usable
 pub mod Examples
+pub mod Slots
+pub mod Quiet
+pub mod HeadLaws
+pub mod Words
+pub mod Growth
+pub mod Sound
+pub mod Leap
+pub mod Spans
+pub mod Turns
+pub mod Laid
+pub mod Scan
+pub mod OnWay
+pub mod WayLaws
+pub mod Listing

@@ -7,7 +7,7 @@ use mathlib.Core.Bool.{Bool, true, false, true≢false}
 use native.Mathlib.Omega.{arith}
 use lib.ListN.{length, drop}
 use lib.Dec.{leb, eqb}
-use borrow.Author.Tests.{leb-true, eqb-true}
+use borrow.Author.Tests.{le-leb, leb-true, eqb-true}
 use Rattle.wire.specs.Read.{Bytes, ok, pick, cut}
 use Rattle.wire.specs.Integers.{valueOf, intAt}
 use Rattle.wire.proofs.Pieces.{Piece, cut-length, piece, join, front, back, bind-ok, ok-ok, cut-is, piece-from, piece-to}
@@ -17,7 +17,7 @@ use Rattle.column.specs.declared.types.Kind.{Kind}
 use Rattle.column.specs.declared.types.Kind.the-variants.{Fixed, Variable, Wide, Chapter, Unknown}
 use Rattle.column.specs.Columns.{kind, width, isVariable, prefixSize, prefixBytes, lengthErrorOf, lengthError}
 use Rattle.column.specs.Fields.{field, fieldAt}
-use Rattle.column.proofs.Laws.{Told, prefix-variable, prefix-plain, length-within, wide-within, field-told, field-made}
+use Rattle.column.proofs.Laws.{Told, prefix-variable, prefix-plain, length-told, field-told, field-made}
 use Rattle.row.specs.Presence.{presenceBytes, Mark, marks, present}
 use Rattle.row.specs.Rows.{Place, place, past, step, walk, walked, rowEnd}
 use Rattle.row.specs.Updates.{updateBytes, numbered, carried, carriedIn, updateWalked, updateEnd}
@@ -136,9 +136,9 @@ field-complete {c} {x} {s} {at} {e} (fixed-field v l) p =
       fixed = λ _. omega (arith, p .ends, prefix-plain c v);
     })
 field-complete {c} (variable-field {prefix = f} {body = b} q n m) p =
-    prefixed-complete f b (rw q) n (length-within c (length b) refl q m) p
+    prefixed-complete f b (rw q) n (length-told c (length b) q (rw (le-leb (length b) (c .maximum) m))) p
 field-complete {c} (wide-field {prefix = f} {body = b} q n m d) p =
-    prefixed-complete f b (rw q) n (wide-within c (length b) refl q m d) p
+    prefixed-complete f b (rw q) n (length-told c (length b) q (rw (le-leb (length b) (2 * c .maximum) m, d))) p
 
 -- A walk over all marks reads the fields of those that have one.
 

@@ -1,1 +1,10 @@
 // Row sections: the elements of a section one after the other, and the table of rows that they make.
+// Rows are read by words and forms that are made of the schemas once a call.
+
+mod children;
+mod data;
+mod heads;
+pub mod read;
+mod shapes;
+mod steps;
+mod ways;

@@ -1,0 +1,113 @@
+-- The rows of a section in the caller's table: what two passes over it come to, and the checks in front of them.
+-- Assumes nothing.
+use Prim.Native.Nat.{ℕ, _+_, _*_, _/_, _<_, _≤_}
+use mathlib.Core.Path.{_≡_, refl, sym, ap, _∙_}
+use mathlib.Core.List.{List}
+use mathlib.Core.Bool.{Bool, true, false}
+use native.Mathlib.Omega.{arith}
+use lib.ListN.{length}
+use lib.Dec.{leb}
+use borrow.Author.Tests.{le-leb, lt-leb}
+use Rattle.wire.specs.declared.error.Error.{Error}
+use Rattle.wire.specs.declared.error.Input.{Input}
+use Rattle.wire.specs.declared.error.Input.the-variants as input
+use Rattle.wire.specs.declared.error.ErrorKind.the-variants as error
+use Rattle.wire.specs.Errors.{codeOf}
+use Rattle.wire.specs.Read.{Bytes, Read, ok, bad, _>>=_, check, about, limit, sized, refused}
+use Rattle.wire.proofs.Laws.{sized-over, sized-within, length-put}
+use Rattle.wire.proofs.Pieces.{bad-ok}
+use Rattle.schema.specs.Schemas.{Schema, readSchemas}
+use Rattle.section.specs.declared.read.RowsRead.{RowsRead}
+use Rattle.section.specs.declared.read.RowsRead.the-variants as read
+use Rattle.section.specs.Grammar.{Row}
+use Rattle.section.specs.Reader.{section}
+use Rattle.section.specs.Table.{roomFor, tableNumbers, rowsFitting, rowsRead, tableAfter, rowCount, toldRows, Listed}
+use Rattle.section.specs.Scan.{Scanned}
+use Rattle.section.proofs.Laid.{laid-all}
+
+-- a number of rows is told of rows
+pub rows-told : (r : Read (List Row)) (n : ℕ) → ok n ≡ rowCount r → (rs : List Row) × (r ≡ ok rs) × (n ≡ length rs)
+rows-told (ok rs) n e = (rs, refl, (cc))
+rows-told (bad c o i) n e = absurd (bad-ok (sym e))
+
+-- an error is told of an error
+pub error-told : (r : Read (List Row)) (e : Error) → refused e ≡ rowCount r → r ≡ refused e
+error-told (ok rs) e q = absurd (bad-ok q)
+error-told (bad c o i) e q =
+    let x : codeOf (e .kind) ≡ c = code-of q in
+    let y : e .offset ≡ o = offset-of q in
+    let z : e .input ≡ i = input-of q in
+    rw (x, y, z) refl
+  where
+    code-of : {a b x y : ℕ} {i j : Input} → _≡_ {A = Read ℕ} (bad a x i) (bad b y j) → a ≡ b
+    code-of p = cc
+
+    offset-of : {a b x y : ℕ} {i j : Input} → _≡_ {A = Read ℕ} (bad a x i) (bad b y j) → x ≡ y
+    offset-of p = cc
+
+    input-of : {a b x y : ℕ} {i j : Input} → _≡_ {A = Read ℕ} (bad a x i) (bad b y j) → i ≡ j
+    input-of p = cc
+
+-- a table stays as long as it is
+pub length-after : (r : Read (List Row)) (table : List ℕ) → length (tableAfter r table) ≡ length table
+unfolding tableAfter
+length-after (ok rs) table = length-put table 0 (tableNumbers rs)
+length-after (bad c o i) table = refl
+
+-- the same error, about another input
+abbrev pub named : Error → Input → Error
+named e name = record { kind = e .kind; offset = e .offset; input = name }
+
+-- an error leaves the table
+pub listed-error : (r : Read (List Row)) (table : List ℕ) (e : Error) → r ≡ refused e → Listed r table table (read.Refused e)
+unfolding tableAfter
+listed-error r table e q = record { answers = rw q refl; leaves = rw q refl }
+
+module _ (S : List Schema) (s : Bytes) (table : List ℕ) where
+  pub fitting-refused : (e : Error) → section S s ≡ refused e → Listed (rowsFitting S s (length table)) table table (read.Refused (named e input.Section))
+  unfolding rowsFitting about
+  fitting-refused e q = listed-error _ table (named e input.Section) by
+    where
+      by : rowsFitting S s (length table) ≡ refused (named e input.Section)
+      by = rw q refl
+
+  module _ (rs : List Row) (q : section S s ≡ ok rs) where
+    pub fitting-full : (e : Error) → e ≡ record { kind = error.Capacity; offset = length rs; input = input.Table } → length table / 4 < length rs →
+        Listed (rowsFitting S s (length table)) table table (read.Refused e)
+    unfolding rowsFitting about check
+    fitting-full e z h = rw z (listed-error _ table _ by)
+      where
+        by : rowsFitting S s (length table) ≡ bad 16 (length rs) input.Table
+        by = rw (q, lt-leb (length rs) (length table / 4) h) refl
+
+    pub fitting-rows : (exit : List ℕ) (r : RowsRead) → length rs ≤ length table / 4 → Scanned (section S s) table exit r →
+        Listed (rowsFitting S s (length table)) table exit r
+    unfolding tableAfter rowsFitting about check
+    fitting-rows exit r h c =
+        record {
+          answers = c .answers ∙ ap rowCount q ∙ ap rowCount (sym by);
+          leaves = c .lays rs q ∙ laid-all rs table (omega arith) ∙ ap (λ (x : Read (List Row)). tableAfter x table) (sym by);
+        }
+      where
+        by : rowsFitting S s (length table) ≡ ok rs
+        by = rw (q, le-leb (length rs) (length table / 4) h) refl
+
+-- the checks in front of a section
+module _ (file s : Bytes) (numbers : ℕ) where
+  pub file-large : limit < length file → rowsRead file s numbers ≡ bad 19 0 input.Schema
+  unfolding rowsRead about
+  file-large h = rw (sized-over file h) refl
+
+  module _ (f : length file ≤ limit) where
+    pub section-large : limit < length s → rowsRead file s numbers ≡ bad 19 0 input.Section
+    unfolding rowsRead about
+    section-large h = rw (sized-within file f, sized-over s h) refl
+
+    module _ (h : length s ≤ limit) where
+      pub file-refused : (e : Error) → readSchemas file ≡ refused e → rowsRead file s numbers ≡ refused (named e input.Schema)
+      unfolding rowsRead about
+      file-refused e q = rw (sized-within file f, sized-within s h, q) refl
+
+      pub file-read : (S : List Schema) → readSchemas file ≡ ok S → rowsRead file s numbers ≡ rowsFitting S s numbers
+      unfolding rowsRead about
+      file-read S q = rw (sized-within file f, sized-within s h, q) refl

@@ -1,0 +1,115 @@
+-- The loop over the words of a row's data: where it stands, and how a word takes it on.
+-- Assumes nothing.
+use Prim.Native.Nat.{ℕ, zero, suc, _+_, _*_, _<_, _≤_}
+use mathlib.Core.Path.{_≡_, refl, sym, ap, _∙_}
+use mathlib.Core.List.{List}
+use mathlib.Core.Bool.{Bool, true, false}
+use native.Mathlib.Omega.{arith}
+use lib.ListN.{length, getD, drop}
+use Rattle.wire.specs.declared.error.ErrorKind.{ErrorKind}
+use Rattle.wire.specs.declared.error.Input.the-variants as input
+use Rattle.wire.specs.Errors.{codeOf}
+use Rattle.wire.specs.Read.{Bytes, Read, ok, bad}
+use Rattle.column.specs.declared.column.Column.{Column}
+use Rattle.column.proofs.Laws.{code-positive}
+use Rattle.row.specs.Presence.{one}
+use Rattle.section.specs.Steps.{Step, noStep, within, spanAt, spanError, leap}
+use Rattle.section.specs.Shapes.{columnOf, gapOf, hasWord}
+use Rattle.section.specs.Ways.{dataEnd, dataHas, dataSteps, Leads, Led}
+use Rattle.section.proofs.Leap.{within-in, within-past, leap-skip, leap-next, leap-error, leap-end}
+
+-- Before word j, at p: the data end where the way over the steps that are left ends.
+pub record OnWay (update : Bool) (cs : List Column) (s : Bytes) (start tail count p j : ℕ) : Type 0 where
+  pub same : dataEnd update cs s start ≡ leap (dataHas update cs s start) s (drop j (dataSteps update cs)) tail p
+  pub far : p ≤ length s + 200000 * j
+  pub most : j ≤ count
+  pub behind : start ≤ p
+
+one-is : (t : Bool) → one t ≡ 1 → t ≡ true
+one-is true e = refl
+one-is false e = absurd (omega arith)
+
+one-not : (t : Bool) → (one t ≡ 1 → ⊥) → t ≡ false
+one-not true e = absurd (e refl)
+one-not false e = refl
+
+-- the bytes of a field that may be there
+pub product : (m has : ℕ) → has ≤ 1 → m ≤ 131074 → m * has ≤ 131074
+product m zero f y = let u : m * 0 ≡ 0 = omega arith in rw u (omega arith)
+product m (suc zero) f y = let u : m * 1 ≡ m = omega arith in rw u y
+product m (suc (suc i)) f y = absurd (omega arith)
+
+module _ (words : List ℕ) (update : Bool) (cs : List Column) (s : Bytes) (start fields first count tail force : ℕ)
+    (l : Led words update cs s start fields first count tail force) where
+  pub way-start : OnWay update cs s start tail count fields 0
+  way-start = record { same = l .ends; far = omega (arith, l .begins); most = omega arith; behind = l .forward }
+
+  module _ (p j : ℕ) (w : OnWay update cs s start tail count p j) where
+    abbrev word : ℕ
+    word = getD words (first + j) 0
+
+    abbrev stepAt : Step
+    stepAt = getD (dataSteps update cs) j noStep
+
+    module _ (h : j < count) (q : ℕ) (gap : q ≡ p + gapOf word) where
+      lead : Leads update cs s start force word j stepAt
+      lead = l .leads j h
+
+      inside : j < length (dataSteps update cs)
+      inside = omega (arith, l .all)
+
+      q-step : q ≡ p + stepAt .gap
+      q-step = gap ∙ ap (λ (x : ℕ). p + x) (lead .gap)
+
+      -- the gap is not wide
+      q-near : q ≤ p + 65536
+      q-near = omega arith
+
+      -- a length that is refused, of a field that is there
+      pub way-refused : (k : ErrorKind) (has : ℕ) → has ≡ one (hasWord update s start force word j) → has ≡ 1 → spanError (columnOf word) s q ≡ codeOf k →
+          dataEnd update cs s start ≡ bad (codeOf k) q input.Single
+      way-refused k has e t r =
+          let x : spanError (stepAt .mark .column) s (p + stepAt .gap) ≡ codeOf k =
+          ap (λ (c : Column). spanError c s (p + stepAt .gap)) (sym (lead .column)) ∙ ap (λ (y : ℕ). spanError (columnOf word) s y) (sym q-step) ∙ r in
+          let m : dataHas update cs s start (stepAt .mark) ≡ true = sym (lead .has) ∙ one-is (hasWord update s start force word j) (sym e ∙ t) in
+          w .same
+          ∙ leap-error (dataHas update cs s start) s (dataSteps update cs) tail p j inside m (λ z. omega (arith, code-positive k, x))
+          ∙ rw (x, ← q-step) refl
+
+      -- a length that is refused, of a field that is not there
+      pub way-skip : (has : ℕ) → has ≡ one (hasWord update s start force word j) → (has ≡ 1 → ⊥) → OnWay update cs s start tail count q (j + 1)
+      way-skip has e t =
+          let m : dataHas update cs s start (stepAt .mark) ≡ false = sym (lead .has) ∙ one-not (hasWord update s start force word j) (λ z. t (e ∙ z)) in
+          record {
+            same = w .same ∙ leap-skip (dataHas update cs s start) s (dataSteps update cs) tail p j inside m ∙ rw (← q-step) refl;
+            far = omega (arith, w .far, q-near);
+            most = omega arith;
+            behind = omega (arith, w .behind);
+          }
+
+      -- a field, or none
+      pub way-next : (has m : ℕ) → has ≡ one (hasWord update s start force word j) → has ≤ 1 → spanError (columnOf word) s q ≡ 0 → m ≡ spanAt (columnOf word) s q →
+          m ≤ 131074 → OnWay update cs s start tail count (q + m * has) (j + 1)
+      way-next has m e f r x y =
+          let z : spanError (stepAt .mark .column) s (p + stepAt .gap) ≡ 0 =
+          ap (λ (c : Column). spanError c s (p + stepAt .gap)) (sym (lead .column)) ∙ ap (λ (v : ℕ). spanError (columnOf word) s v) (sym q-step) ∙ r in
+          let v : spanAt (stepAt .mark .column) s (p + stepAt .gap) ≡ m =
+          ap (λ (c : Column). spanAt c s (p + stepAt .gap)) (sym (lead .column)) ∙ ap (λ (u : ℕ). spanAt (columnOf word) s u) (sym q-step) ∙ sym x in
+          let b : one (dataHas update cs s start (stepAt .mark)) ≡ has = ap one (sym (lead .has)) ∙ sym e in
+          let k : m * has ≤ 131074 = product m has f y in
+          record {
+            same = w .same ∙ leap-next (dataHas update cs s start) s (dataSteps update cs) tail p j inside z ∙ rw (v, b, ← q-step) refl;
+            far = omega (arith, w .far, q-near);
+            most = omega arith;
+            behind = omega (arith, w .behind);
+          }
+
+    module _ (h : count ≤ j) where
+      last : dataEnd update cs s start ≡ within s (p + tail)
+      last = w .same ∙ leap-end (dataHas update cs s start) s (dataSteps update cs) tail p j (omega (arith, l .all))
+
+      pub way-short : length s < p + tail → dataEnd update cs s start ≡ bad 1 (length s) input.Single
+      way-short x = last ∙ within-past s (p + tail) x
+
+      pub way-ended : p + tail ≤ length s → dataEnd update cs s start ≡ ok (p + tail)
+      way-ended x = last ∙ within-in s (p + tail) x

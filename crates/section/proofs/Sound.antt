@@ -1,0 +1,71 @@
+-- The table of a file that reads is sound, and says the file's schemas.
+-- Assumes nothing.
+use Prim.Native.Nat.{ℕ, _+_, _≤_, _<_}
+use mathlib.Core.Path.{_≡_, sym, ap, _∙_}
+use mathlib.Core.List.{List, []}
+use mathlib.Core.Option.{some}
+use native.Mathlib.Omega.{arith}
+use lib.ListN.{length, getD}
+use Rattle.wire.specs.Read.{Bytes, AreBytes, ok}
+use Rattle.wire.proofs.Pieces.{bind-ok, ok-ok}
+use Rattle.schema.specs.Tree.{Tree, WellFormed, counts}
+use Rattle.schema.specs.Reader.{fileOf}
+use Rattle.schema.specs.Schemas.{Schema, schema, schemasOf, readSchemas, columnCount, childNumber}
+use Rattle.schema.specs.Table.{tableSize, schemaSlot, idIn, schemaIn, schemasIn}
+use Rattle.schema.specs.Filling.{Filled, fillFile}
+use Rattle.schema.proofs.SchemaLists.{schemas-length, column-total, schemas-few}
+use Rattle.schema.proofs.Children.{child-only}
+use Rattle.schema.proofs.TableSays.{schemas-in-length, schemas-in-at}
+use Rattle.schema.proofs.Theorem.{file-of-iff}
+use Rattle.schema.proofs.Questions.{schemas-read, slots-of}
+use Rattle.section.specs.Shapes.{Sound}
+
+-- A table that says the schemas of a well-formed file.
+module _ (t : Tree) (good : WellFormed t) (n : ℕ) (slots : List ℕ) (says : schemasOf t ≡ schemasIn 0 n slots) where
+  -- it has as many schemas as the file
+  same-count : n ≡ length (schemasOf t)
+  same-count = sym (schemas-in-length 0 n slots) ∙ sym (ap length says)
+
+  -- and as many columns
+  same-total : columnCount (schemasIn 0 n slots) ≤ 256
+  same-total =
+      let e : columnCount (schemasIn 0 n slots) ≡ counts t = sym (ap columnCount says) ∙ column-total t in
+      omega (arith, good .few)
+
+  -- the slot of a schema has the schema's id
+  same-id : (k : ℕ) → k < n → idIn (getD slots (schemaSlot k) 0) ≡ getD (schemasOf t) k (schema 0 []) .id
+  unfolding schemaIn
+  same-id k h =
+      let z : 0 + k ≡ k = omega arith in
+      let e : getD (schemasIn 0 n slots) k (schema 0 []) .id ≡ schemaIn k slots .id =
+      ap (λ (s : Schema). s .id) (schemas-in-at 0 n slots k h ∙ ap (λ (j : ℕ). schemaIn j slots) z) in
+      sym (ap (λ (ss : List Schema). getD ss k (schema 0 []) .id) says ∙ e)
+
+  -- each nested schema is found by its id
+  same-child : (k : ℕ) → 1 ≤ k → k < n → childNumber (schemasIn 0 n slots) (idIn (getD slots (schemaSlot k) 0)) ≡ some k
+  same-child k l h =
+      ap (childNumber (schemasIn 0 n slots)) (same-id k h)
+      ∙ sym (ap (λ (ss : List Schema). childNumber ss (getD (schemasOf t) k (schema 0 []) .id)) says)
+      ∙ child-only t good k l (omega (arith, same-count))
+
+module _ (b : Bytes) (table : List ℕ) (bytes : AreBytes b) (long : length table ≡ tableSize) (f : Filled) (h : fillFile b table ≡ ok f) where
+  -- The schemas of the file are those of the table.
+  pub schemas-of : readSchemas b ≡ ok (schemasIn 0 (f .schemas) (f .table))
+  schemas-of = schemas-read b table bytes long f h
+
+  -- The table is sound.
+  pub sound-of : Sound (f .table) (f .schemas)
+  unfolding readSchemas
+  sound-of =
+      let (t, e, g) = bind-ok (fileOf b) (λ t. ok (schemasOf t)) (schemasIn 0 (f .schemas) (f .table)) schemas-of in
+      let good : WellFormed t = file-of-iff b t bytes .0 e .1 in
+      let says : schemasOf t ≡ schemasIn 0 (f .schemas) (f .table) = ok-ok g in
+      let n : f .schemas ≡ length (schemasOf t) = same-count t good (f .schemas) (f .table) says in
+      record {
+        top = omega (arith, n, schemas-length t);
+        all = omega (arith, n, schemas-length t, schemas-few good);
+        few = λ k l. slots-of b table bytes long f h k l .few;
+        inside = λ k l. slots-of b table bytes long f h k l .inside;
+        total = same-total t good (f .schemas) (f .table) says;
+        once = same-child t good (f .schemas) (f .table) says;
+      }

@@ -1,0 +1,150 @@
+-- A turn of the reader by positions is the element's head and then what the head asks for.
+-- Assumes nothing.
+use Prim.Native.Nat.{ℕ, zero, suc, _+_, _^_, _<_, _≤_}
+use mathlib.Core.Path.{_≡_, refl, sym, ap, _∙_}
+use mathlib.Core.List.{List, [], _∷_}
+use mathlib.Core.Bool.{Bool, true, false}
+use mathlib.Core.Option.{Option, none, some}
+use native.Mathlib.Omega.{arith}
+use lib.ListN.{length, getD, drop}
+use lib.Dec.{leb, eqb}
+use borrow.Author.Tests.{leb-true, eqb-true}
+use Rattle.wire.specs.declared.error.Input.{Input}
+use Rattle.wire.specs.Integers.{valueOf, intAt}
+use Rattle.wire.specs.Read.{Bytes, AreBytes, cut, Read, ok, bad, _>>=_, pick, check, whole}
+use Rattle.schema.specs.Schemas.{Schema, childNumber}
+use Rattle.wire.proofs.Pieces.{bind-ok, check-ok, ok-ok, bad-ok, cut-length, value-small, bytes-take, bytes-drop}
+use Rattle.section.specs.Grammar.{Before, other, after, columnsAt, Row, entry}
+use Rattle.section.specs.Reader.{Token, parentToken, childToken, changeToken, deleteToken, doneToken, unknownToken, tokenOf, knownChild, follows, idAt}
+use Rattle.section.specs.Pending.{Pending, nothing, child-row, beforeOf, flush, close, turn, rowsFrom}
+use Rattle.section.specs.Heads.{HeadAt, doneHead, deleteHead, dataHead, headBy, headAt, beforeIn, pendingIn}
+use Rattle.section.specs.Ways.{dataEnd}
+
+-- what is pending behind row data of a kind
+abbrev pub pendingAfter : (kind id start : ℕ) → Pending
+pendingAfter kind id start = pick (eqb kind 2) (child-row id start) nothing
+
+-- the rows with that of the data in front
+abbrev pub rowsAfter : (kind start : ℕ) → Pending → List Row → List Row
+rowsAfter kind start p rs = pick (eqb kind 3) (close 3 start p rs) (flush p (pick (eqb kind 2) rs (entry 1 0 start 0 ∷ rs)))
+
+-- what follows a head
+abbrev pub resumed : List Schema → Bytes → (Pending → ℕ → Read (List Row)) → Pending → ℕ → HeadAt → Read (List Row)
+resumed S s next p at doneHead = ok (flush p [])
+resumed S s next p at (deleteHead id) = next nothing (at + 5) >>= λ rs. ok (close 4 0 p rs)
+resumed S s next p at (dataHead kind k id start) =
+    dataEnd (eqb kind 3) (columnsAt S k) s start >>= λ e. next (pendingAfter kind id start) e >>= λ rs. ok (rowsAfter kind start p rs)
+
+bind-bind : {A B C : Type 0} (r : Read A) (g : A → Read B) (h : B → Read C) → ((r >>= g) >>= h) ≡ (r >>= λ a. g a >>= h)
+bind-bind (ok a) g h = refl
+bind-bind (bad c p i) g h = refl
+
+-- four bytes behind a token end at at + 5
+id-end : (s : Bytes) (at b : ℕ) → whole s (at + 1) 4 ≡ ok b → b ≡ at + 5
+unfolding whole
+id-end s at b e =
+    let (u, t, f) = bind-ok (check (leb (at + 1 + 4) (length s)) 1 (length s)) (λ _. ok (at + 1 + 4)) b e in
+    omega (arith, ok-ok f)
+
+-- two readers that go on alike
+bind-same : {A B : Type 0} (r : Read A) (g h : A → Read B) → ((a : A) → r ≡ ok a → g a ≡ h a) → (r >>= g) ≡ (r >>= h)
+bind-same (ok a) g h e = e a refl
+bind-same (bad c p i) g h e = refl
+
+module _ (S : List Schema) (s : Bytes) (next : Pending → ℕ → Read (List Row)) (p : Pending) (at : ℕ) where
+  by-token : (t : Token) → turn S s next p at t ≡ (headBy S s (beforeOf p) at t >>= resumed S s next p at)
+  unfolding turn headBy
+  by-token doneToken = sym (bind-bind (check (eqb (length s) (at + 1)) 15 (at + 1)) _ _)
+  by-token parentToken = refl
+  by-token childToken =
+      bind-same (whole s (at + 1) 4) _ _ (λ b e. sym (bind-bind (knownChild at (childNumber S (idAt s at))) _ _))
+      ∙ sym (bind-bind (whole s (at + 1) 4) _ _)
+  by-token changeToken =
+      bind-same (whole s (at + 1) 4) _ _
+      (λ b e. bind-same (check (follows (beforeOf p) (idAt s at)) 11 at) _ _ (λ u f. sym (bind-bind (knownChild at (childNumber S (idAt s at))) _ _))
+      ∙ sym (bind-bind (check (follows (beforeOf p) (idAt s at)) 11 at) _ _))
+      ∙ sym (bind-bind (whole s (at + 1) 4) _ _)
+  by-token deleteToken =
+      bind-same (whole s (at + 1) 4) _ _
+      (λ b e. ap (λ (x : ℕ). check (follows (beforeOf p) (idAt s at)) 11 at >>= λ _. next nothing x >>= λ rs. ok (close 4 0 p rs)) (id-end s at b e)
+      ∙ sym (bind-bind (check (follows (beforeOf p) (idAt s at)) 11 at) _ _))
+      ∙ sym (bind-bind (whole s (at + 1) 4) _ _)
+  by-token unknownToken = refl
+
+-- one element more
+pub rows-step : (S : List Schema) (s : Bytes) (fuel : ℕ) (p : Pending) (at : ℕ) →
+    rowsFrom S s (suc fuel) p at ≡ (headAt S s (beforeOf p) at >>= resumed S s (rowsFrom S s fuel) p at)
+unfolding rowsFrom headAt
+rows-step S s fuel p at =
+    bind-same (whole s at 1) _ _ (λ b e. by-token S s (rowsFrom S s fuel) p at (tokenOf (getD s at 0))) ∙ sym (bind-bind (whole s at 1) _ _)
+
+-- what code keeps of what is pending says what stands before
+pub before-pending : (slots : List ℕ) (child origin : ℕ) → beforeOf (pendingIn slots child origin) ≡ beforeIn slots child
+before-pending slots zero origin = refl
+before-pending slots (suc k) origin = refl
+
+-- What a head tells.
+pub data HeadTold (S : List Schema) (s : Bytes) (before : Before) (at : ℕ) : HeadAt → Type 0 where
+  told-done : HeadTold S s before at doneHead
+  told-delete : {id : ℕ} → before ≡ after id → id ≡ idAt s at → at + 5 ≤ length s → HeadTold S s before at (deleteHead id)
+  told-parent : at + 1 ≤ length s → HeadTold S s before at (dataHead 1 0 0 (at + 1))
+  told-child : {k id start : ℕ} → childNumber S id ≡ some k → id ≡ idAt s at → start ≡ at + 5 → start ≤ length s → HeadTold S s before at (dataHead 2 k id start)
+  told-change : {k id start : ℕ} → before ≡ after id → childNumber S id ≡ some k → id ≡ idAt s at → start ≡ at + 5 → start ≤ length s → HeadTold S s before at (dataHead 3 k id start)
+
+whole-inside : (s : Bytes) (a n b : ℕ) → whole s a n ≡ ok b → (b ≡ a + n) × (a + n ≤ length s)
+unfolding whole
+whole-inside s a n b e =
+    let (u, t, f) = bind-ok (check (leb (a + n) (length s)) 1 (length s)) (λ _. ok (a + n)) b e in
+    (sym (ok-ok f), leb-true _ _ (check-ok _ _ _ u t))
+
+known-some : (at : ℕ) (o : Option ℕ) (k : ℕ) → knownChild at o ≡ ok k → o ≡ some k
+unfolding knownChild
+known-some at none k e = absurd (bad-ok e)
+known-some at (some j) k e = ap (λ (x : ℕ). some x) (ok-ok e)
+
+follows-after : (b : Before) (id : ℕ) → follows b id ≡ true → b ≡ after id
+follows-after other id e = let z : _≡_ {A = ℕ} 0 1 = cc in absurd (omega arith)
+follows-after (after i) id e = ap (λ (x : ℕ). after x) (eqb-true _ _ e)
+
+as-told : {S : List Schema} {s : Bytes} {before : Before} {at : ℕ} {g h : HeadAt} → HeadTold S s before at g → g ≡ h → HeadTold S s before at h
+as-told t e = rw (← e) t
+
+module _ (S : List Schema) (s : Bytes) (before : Before) (at : ℕ) (here : at + 1 ≤ length s) where
+  told-by : (t : Token) (h : HeadAt) → headBy S s before at t ≡ ok h → HeadTold S s before at h
+  unfolding headBy
+  told-by doneToken h e =
+      let (u, c, r) = bind-ok (check (eqb (length s) (at + 1)) 15 (at + 1)) (λ _. ok doneHead) h e in
+      as-told told-done (ok-ok r)
+  told-by parentToken h e = as-told (told-parent here) (ok-ok e)
+  told-by childToken h e =
+      let (b, w, r₁) = bind-ok _ _ h e in
+      let (k, n, r₂) = bind-ok _ _ h r₁ in
+      let (x, y) = whole-inside s (at + 1) 4 b w in
+      as-told (told-child (known-some at _ k n) refl (omega arith) (omega arith)) (ok-ok r₂)
+  told-by changeToken h e =
+      let (b, w, r₁) = bind-ok _ _ h e in
+      let (u, f, r₂) = bind-ok _ _ h r₁ in
+      let (k, n, r₃) = bind-ok _ _ h r₂ in
+      let (x, y) = whole-inside s (at + 1) 4 b w in
+      as-told (told-change (follows-after before (idAt s at) (check-ok _ _ _ u f)) (known-some at _ k n) refl (omega arith) (omega arith)) (ok-ok r₃)
+  told-by deleteToken h e =
+      let (b, w, r₁) = bind-ok _ _ h e in
+      let (u, f, r₂) = bind-ok _ _ h r₁ in
+      let (x, y) = whole-inside s (at + 1) 4 b w in
+      as-told (told-delete (follows-after before (idAt s at) (check-ok _ _ _ u f)) refl (omega arith)) (ok-ok r₂)
+  told-by unknownToken h e = absurd (bad-ok e)
+
+-- an id is a number of four bytes
+pub id-small : (s : Bytes) (at : ℕ) → AreBytes s → at + 5 ≤ length s → idAt s at < 4294967296
+unfolding intAt
+id-small s at o h =
+    let l : length (cut s (at + 1) 4) ≡ 4 = cut-length s (at + 1) 4 (omega arith) in
+    let v : valueOf (cut s (at + 1) 4) < 256 ^ length (cut s (at + 1) 4) = value-small (cut s (at + 1) 4) (bytes-take 4 (drop (at + 1) s) (bytes-drop (at + 1) s o)) in
+    rw l at v
+
+pub head-told : (S : List Schema) (s : Bytes) (before : Before) (at : ℕ) (h : HeadAt) → headAt S s before at ≡ ok h → HeadTold S s before at h
+unfolding headAt
+head-told S s before at h e =
+    let (b, w, r) = bind-ok _ _ h e in
+    let (x, y) = whole-inside s at 1 b w in
+    told-by S s before at y (tokenOf (getD s at 0)) h r

@@ -1,0 +1,511 @@
+-- An element keeps what holds before it; words lead over its data.
+-- Assumes nothing.
+use Prim.Native.Nat.{ℕ, _+_, _-_, _*_, _<_, _≤_}
+use mathlib.Core.Path.{_≡_, refl, sym, ap, _∙_}
+use native.Mathlib.Omega.{arith}
+use lib.ListN.{length, getD}
+use lib.Dec.{eqb}
+use Rattle.wire.specs.Read.{refused}
+use Rattle.section.specs.declared.steps.Span.the-variants as span
+use Rattle.section.specs.Heads.{toldHead}
+use Rattle.section.specs.Shapes.{columnOf, gapOf, slotColumns}
+use Rattle.section.specs.Spans.{SpanIs}
+use Rattle.section.specs.Ways.{dataEnd, Led}
+use Rattle.section.proofs.Scan.{AtElement, at-start, head-refused, deleted, delete-small, data-refused, row-ended, change-ended, head-ahead, table-long, scanned-rows, scanned-refused}
+use Rattle.section.proofs.OnWay.{OnWay, product, way-start, way-refused, way-skip, way-next, way-short, way-ended}
+use borrow.Author.Needs.{needs}
+use Rattle.section.proofs.read.scan.Statement.{statement}
+use Rattle.section.proofs.read.scan.Tie as tie
+
+abbrev Inv-loop : tie.InvT-loop
+Inv-loop slots words forms numbers schemas section table at rows child origin kind number id start update fields first count tail force p₀ j₀ p j = OnWay update (slotColumns slots number) section start tail count p j
+
+abbrev μ-loop : tie.MeasureT-loop
+μ-loop slots words forms numbers schemas section table at rows child origin kind number id start update fields first count tail force p₀ j₀ p j = count - j
+
+abbrev Inv-section : tie.InvT-section
+Inv-section slots words forms numbers schemas section table₀ at₀ rows₀ child₀ origin₀ table at rows child origin = AtElement slots schemas section table₀ table at rows child origin
+
+abbrev μ-section : tie.MeasureT-section
+μ-section slots words forms numbers schemas section table₀ at₀ rows₀ child₀ origin₀ table at rows child origin = length section - at
+
+section-holds : tie.Need-section-holds Inv-loop μ-loop Inv-section μ-section
+section-holds c =
+    let pre = c .before .before .pre in
+    at-start _ _ _ _ (pre .0 .top)
+
+head-at-requires : tie.Need-head-at-requires Inv-loop μ-loop Inv-section μ-section
+head-at-requires c κs =
+    let pre = c .before .before .before .pre in
+    (pre .0, c .section .inv .nested, pre .2)
+
+sub-put-row : tie.Need-sub-put-row Inv-loop μ-loop Inv-section μ-section
+sub-put-row c =
+    let section = c .before .before .before .before .before .section in
+    let head-at = c .before .before .before .before .head-at in
+    let id = c .before .before .id in
+    let d = deleted _ _ _ _ _ _ _ _ _ (section .inv) (id .given .0 .0) (sym (head-at .ensures) ∙ ap toldHead (id .given .1)) in omega (arith, d .0)
+
+cast-put-row : tie.Need-cast-put-row Inv-loop μ-loop Inv-section μ-section
+cast-put-row c =
+    let shared-slice-known = c .before .before .before .before .before .before .before .shared-slice-known in
+    let section = c .before .before .before .before .before .section in
+    let head-at = c .before .before .before .before .head-at in
+    let id = c .before .before .id in
+    omega (arith, delete-small _ _ _ _ _ _ _ _ _ (section .inv) (id .given .0 .0) (λ i. shared-slice-known .given i .fits) (sym (head-at .ensures) ∙ ap toldHead (id .given .1)))
+
+cast-put-row-2 : tie.Need-cast-put-row-2 Inv-loop μ-loop Inv-section μ-section
+cast-put-row-2 c =
+    let pre = c .before .before .before .before .before .before .before .before .pre in
+    let section = c .before .before .before .before .before .section in
+    omega (arith, section .inv .begun, pre .2)
+
+put-row-requires : tie.Need-put-row-requires Inv-loop μ-loop Inv-section μ-section
+put-row-requires c κs =
+    let pre = c .before .before .before .before .before .before .before .before .pre in
+    let section = c .before .before .before .before .before .section in
+    omega (arith, section .inv .few, section .inv .inside, pre .2)
+
+add-at : tie.Need-add-at Inv-loop μ-loop Inv-section μ-section
+add-at c =
+    let pre = c .before .before .before .before .before .before .before .before .before .before .before .pre in
+    let section = c .before .before .before .before .before .before .before .before .section in
+    let head-at = c .before .before .before .before .before .before .before .head-at in
+    let id = c .before .before .before .before .before .id in
+    let d = deleted _ _ _ _ _ _ _ _ _ (section .inv) (id .given .0 .0) (sym (head-at .ensures) ∙ ap toldHead (id .given .1)) in omega (arith, d .1, pre .2)
+
+section-less : tie.Need-section-less Inv-loop μ-loop Inv-section μ-section
+section-less c =
+    let section = c .before .before .before .before .before .before .before .before .section in
+    let head-at = c .before .before .before .before .before .before .before .head-at in
+    let id = c .before .before .before .before .before .id in
+    let d = deleted _ _ _ _ _ _ _ _ _ (section .inv) (id .given .0 .0) (sym (head-at .ensures) ∙ ap toldHead (id .given .1)) in omega (arith, d .1)
+
+section-again : tie.Need-section-again Inv-loop μ-loop Inv-section μ-section
+section-again c =
+    let section = c .before .before .before .before .before .before .before .before .section in
+    let head-at = c .before .before .before .before .before .before .before .head-at in
+    let id = c .before .before .before .before .before .id in
+    let put-row = c .before .before .put-row in
+    let d = deleted _ _ _ _ _ _ _ _ _ (section .inv) (id .given .0 .0) (sym (head-at .ensures) ∙ ap toldHead (id .given .1)) in rw (put-row .ensures) (d .2)
+
+way-over-requires : tie.Need-way-over-requires Inv-loop μ-loop Inv-section μ-section
+way-over-requires c κs =
+    let pre = c .before .before .before .before .before .before .before .pre in
+    let shared-slice-known = c .before .before .before .before .before .before .shared-slice-known in
+    let section = c .before .before .before .before .section in
+    let head-at = c .before .before .before .head-at in
+    let kind = c .before .kind in
+    (pre .0, pre .1, (head-ahead _ _ _ _ _ _ _ _ _ (section .inv) (kind .given .0 .0) (kind .given .0 .1 .0) (kind .given .0 .1 .1 .0) (kind .given .0 .1 .1 .1 .0) (pre .0 .top) (λ i. shared-slice-known .given i .fits) (sym (head-at .ensures) ∙ ap toldHead (kind .given .1))) .number)
+
+loop-holds : tie.Need-loop-holds Inv-loop μ-loop Inv-section μ-section
+loop-holds c =
+    let args = c .before .before .before .before .before .before .before .before .before .before .before .args in
+    let kind = c .before .before .before .before .before .kind in
+    let way-over = c .before .before .before .way-over in
+    let fields = c .before .fields in
+    let l : Led (args .words .now) (eqb (kind .given .0 .0) 3) (slotColumns (args .slots .now) (kind .given .0 .1 .0)) (args .section .now) (kind .given .0 .1 .1 .1 .0) ((fields .given .0) .0) ((fields .given .0) .1 .0) ((fields .given .0) .1 .1 .0) ((fields .given .0) .1 .1 .1 .0) ((fields .given .0) .1 .1 .1 .1 .0) = rw (fields .given .1) at (way-over .ensures) in way-start _ _ _ _ _ _ _ _ _ _ l
+
+add-word : tie.Need-add-word Inv-loop μ-loop Inv-section μ-section
+add-word c =
+    let args = c .before .before .before .before .before .before .before .before .before .before .before .before .before .args in
+    let kind = c .before .before .before .before .before .before .before .kind in
+    let way-over = c .before .before .before .before .before .way-over in
+    let fields = c .before .before .before .fields in
+    let l : Led (args .words .now) (eqb (kind .given .0 .0) 3) (slotColumns (args .slots .now) (kind .given .0 .1 .0)) (args .section .now) (kind .given .0 .1 .1 .1 .0) ((fields .given .0) .0) ((fields .given .0) .1 .0) ((fields .given .0) .1 .1 .0) ((fields .given .0) .1 .1 .1 .0) ((fields .given .0) .1 .1 .1 .1 .0) = rw (fields .given .1) at (way-over .ensures) in omega (arith, l .inside, c .loop-test .taken)
+
+mul-word : tie.Need-mul-word Inv-loop μ-loop Inv-section μ-section
+mul-word c =
+    let args = c .before .before .before .before .before .before .before .before .before .before .before .before .before .args in
+    let kind = c .before .before .before .before .before .before .before .kind in
+    let way-over = c .before .before .before .before .before .way-over in
+    let fields = c .before .before .before .fields in
+    let l : Led (args .words .now) (eqb (kind .given .0 .0) 3) (slotColumns (args .slots .now) (kind .given .0 .1 .0)) (args .section .now) (kind .given .0 .1 .1 .1 .0) ((fields .given .0) .0) ((fields .given .0) .1 .0) ((fields .given .0) .1 .1 .0) ((fields .given .0) .1 .1 .1 .0) ((fields .given .0) .1 .1 .1 .1 .0) = rw (fields .given .1) at (way-over .ensures) in omega (arith, l .inside, c .loop-test .taken)
+
+element-copy-out-word : tie.Need-element-copy-out-word Inv-loop μ-loop Inv-section μ-section
+element-copy-out-word c =
+    let args = c .before .before .before .before .before .before .before .before .before .before .before .before .before .args in
+    let kind = c .before .before .before .before .before .before .before .kind in
+    let way-over = c .before .before .before .before .before .way-over in
+    let fields = c .before .before .before .fields in
+    let l : Led (args .words .now) (eqb (kind .given .0 .0) 3) (slotColumns (args .slots .now) (kind .given .0 .1 .0)) (args .section .now) (kind .given .0 .1 .1 .1 .0) ((fields .given .0) .0) ((fields .given .0) .1 .0) ((fields .given .0) .1 .1 .0) ((fields .given .0) .1 .1 .1 .0) ((fields .given .0) .1 .1 .1 .1 .0) = rw (fields .given .1) at (way-over .ensures) in omega (arith, l .inside, c .loop-test .taken)
+
+add-q : tie.Need-add-q Inv-loop μ-loop Inv-section μ-section
+add-q c =
+    let args = c .before .before .before .before .before .before .before .before .before .before .before .before .before .before .args in
+    let pre = c .before .before .before .before .before .before .before .before .before .before .before .before .before .before .pre in
+    let kind = c .before .before .before .before .before .before .before .before .kind in
+    let way-over = c .before .before .before .before .before .before .way-over in
+    let fields = c .before .before .before .before .fields in
+    let loop = c .before .before .loop in
+    let l : Led (args .words .now) (eqb (kind .given .0 .0) 3) (slotColumns (args .slots .now) (kind .given .0 .1 .0)) (args .section .now) (kind .given .0 .1 .1 .1 .0) ((fields .given .0) .0) ((fields .given .0) .1 .0) ((fields .given .0) .1 .1 .0) ((fields .given .0) .1 .1 .1 .0) ((fields .given .0) .1 .1 .1 .1 .0) = rw (fields .given .1) at (way-over .ensures) in omega (arith, loop .inv .far, l .few, pre .2, c .before .loop-test .taken)
+
+has-word-requires : tie.Need-has-word-requires Inv-loop μ-loop Inv-section μ-section
+has-word-requires c κs =
+    let args = c .before .before .before .before .before .before .before .before .before .before .before .before .before .before .args in
+    let kind = c .before .before .before .before .before .before .before .before .kind in
+    let way-over = c .before .before .before .before .before .before .way-over in
+    let fields = c .before .before .before .before .fields in
+    let l : Led (args .words .now) (eqb (kind .given .0 .0) 3) (slotColumns (args .slots .now) (kind .given .0 .1 .0)) (args .section .now) (kind .given .0 .1 .1 .1 .0) ((fields .given .0) .0) ((fields .given .0) .1 .0) ((fields .given .0) .1 .1 .0) ((fields .given .0) .1 .1 .1 .0) ((fields .given .0) .1 .1 .1 .1 .0) = rw (fields .given .1) at (way-over .ensures) in (l .starts, l .forces)
+
+span-at-requires : tie.Need-span-at-requires Inv-loop μ-loop Inv-section μ-section
+span-at-requires c κs =
+    let args = c .before .before .before .before .before .before .before .before .before .before .before .before .before .before .before .args in
+    let kind = c .before .before .before .before .before .before .before .before .before .kind in
+    let way-over = c .before .before .before .before .before .before .before .way-over in
+    let fields = c .before .before .before .before .before .fields in
+    let loop = c .before .before .before .loop in
+    let loop-test = c .before .before .loop-test in
+    let l : Led (args .words .now) (eqb (kind .given .0 .0) 3) (slotColumns (args .slots .now) (kind .given .0 .1 .0)) (args .section .now) (kind .given .0 .1 .1 .1 .0) ((fields .given .0) .0) ((fields .given .0) .1 .0) ((fields .given .0) .1 .1 .0) ((fields .given .0) .1 .1 .1 .0) ((fields .given .0) .1 .1 .1 .1 .0) = rw (fields .given .1) at (way-over .ensures) in l .leads (loop .j) (loop-test .taken) .width
+
+loop-again : tie.Need-loop-again Inv-loop μ-loop Inv-section μ-section
+loop-again c =
+    let args = c .before .before .before .before .before .before .before .before .before .before .before .before .before .before .before .before .before .before .before .before .args in
+    let kind = c .before .before .before .before .before .before .before .before .before .before .before .before .before .before .kind in
+    let way-over = c .before .before .before .before .before .before .before .before .before .before .before .before .way-over in
+    let fields = c .before .before .before .before .before .before .before .before .before .before .fields in
+    let loop = c .before .before .before .before .before .before .before .before .loop in
+    let loop-test = c .before .before .before .before .before .before .before .loop-test in
+    let has-word = c .before .before .before .before .before .has-word in
+    let l : Led (args .words .now) (eqb (kind .given .0 .0) 3) (slotColumns (args .slots .now) (kind .given .0 .1 .0)) (args .section .now) (kind .given .0 .1 .1 .1 .0) ((fields .given .0) .0) ((fields .given .0) .1 .0) ((fields .given .0) .1 .1 .0) ((fields .given .0) .1 .1 .1 .0) ((fields .given .0) .1 .1 .1 .1 .0) = rw (fields .given .1) at (way-over .ensures) in way-skip _ _ _ _ _ _ _ _ _ _ l _ _ (loop .inv) (loop-test .taken) _ refl (has-word .result) (has-word .ensures .0) (c .if1 .left)
+
+mul-p : tie.Need-mul-p Inv-loop μ-loop Inv-section μ-section
+mul-p c =
+    let args = c .before .before .before .before .before .before .before .before .before .before .before .before .before .before .before .before .before .before .before .args in
+    let fields = c .before .before .before .before .before .before .before .before .before .fields in
+    let loop = c .before .before .before .before .before .before .before .loop in
+    let has-word = c .before .before .before .before .has-word in
+    let span-at = c .before .before .before .span-at in
+    let n = c .before .n in
+    let sp : SpanIs (columnOf (getD (args .words .now) ((fields .given .0) .1 .0 + loop .j) 0)) (args .section .now) (loop .p + gapOf (getD (args .words .now) ((fields .given .0) .1 .0 + loop .j) 0)) (span.Bytes (n .given .0 .0)) = rw (n .given .1) at (span-at .ensures) in omega (arith, product (n .given .0 .0) (has-word .result) (has-word .ensures .1) (sp .2))
+
+add-p : tie.Need-add-p Inv-loop μ-loop Inv-section μ-section
+add-p c =
+    let args = c .before .before .before .before .before .before .before .before .before .before .before .before .before .before .before .before .before .before .before .args in
+    let pre = c .before .before .before .before .before .before .before .before .before .before .before .before .before .before .before .before .before .before .before .pre in
+    let kind = c .before .before .before .before .before .before .before .before .before .before .before .before .before .kind in
+    let way-over = c .before .before .before .before .before .before .before .before .before .before .before .way-over in
+    let fields = c .before .before .before .before .before .before .before .before .before .fields in
+    let loop = c .before .before .before .before .before .before .before .loop in
+    let loop-test = c .before .before .before .before .before .before .loop-test in
+    let has-word = c .before .before .before .before .has-word in
+    let span-at = c .before .before .before .span-at in
+    let n = c .before .n in
+    let l : Led (args .words .now) (eqb (kind .given .0 .0) 3) (slotColumns (args .slots .now) (kind .given .0 .1 .0)) (args .section .now) (kind .given .0 .1 .1 .1 .0) ((fields .given .0) .0) ((fields .given .0) .1 .0) ((fields .given .0) .1 .1 .0) ((fields .given .0) .1 .1 .1 .0) ((fields .given .0) .1 .1 .1 .1 .0) = rw (fields .given .1) at (way-over .ensures) in
+    let sp : SpanIs (columnOf (getD (args .words .now) ((fields .given .0) .1 .0 + loop .j) 0)) (args .section .now) (loop .p + gapOf (getD (args .words .now) ((fields .given .0) .1 .0 + loop .j) 0)) (span.Bytes (n .given .0 .0)) = rw (n .given .1) at (span-at .ensures) in
+    omega (arith, product (n .given .0 .0) (has-word .result) (has-word .ensures .1) (sp .2), loop .inv .far, l .few, pre .2, loop-test .taken)
+
+loop-again-2 : tie.Need-loop-again-2 Inv-loop μ-loop Inv-section μ-section
+loop-again-2 c =
+    let args = c .before .before .before .before .before .before .before .before .before .before .before .before .before .before .before .before .before .before .before .args in
+    let kind = c .before .before .before .before .before .before .before .before .before .before .before .before .before .kind in
+    let way-over = c .before .before .before .before .before .before .before .before .before .before .before .way-over in
+    let fields = c .before .before .before .before .before .before .before .before .before .fields in
+    let loop = c .before .before .before .before .before .before .before .loop in
+    let loop-test = c .before .before .before .before .before .before .loop-test in
+    let has-word = c .before .before .before .before .has-word in
+    let span-at = c .before .before .before .span-at in
+    let n = c .before .n in
+    let l : Led (args .words .now) (eqb (kind .given .0 .0) 3) (slotColumns (args .slots .now) (kind .given .0 .1 .0)) (args .section .now) (kind .given .0 .1 .1 .1 .0) ((fields .given .0) .0) ((fields .given .0) .1 .0) ((fields .given .0) .1 .1 .0) ((fields .given .0) .1 .1 .1 .0) ((fields .given .0) .1 .1 .1 .1 .0) = rw (fields .given .1) at (way-over .ensures) in
+    let sp : SpanIs (columnOf (getD (args .words .now) ((fields .given .0) .1 .0 + loop .j) 0)) (args .section .now) (loop .p + gapOf (getD (args .words .now) ((fields .given .0) .1 .0 + loop .j) 0)) (span.Bytes (n .given .0 .0)) = rw (n .given .1) at (span-at .ensures) in
+    way-next _ _ _ _ _ _ _ _ _ _ l _ _ (loop .inv) (loop-test .taken) _ refl (has-word .result) (n .given .0 .0) (has-word .ensures .0) (has-word .ensures .1) (sp .0) (sp .1) (sp .2)
+
+add-end : tie.Need-add-end Inv-loop μ-loop Inv-section μ-section
+add-end c =
+    let args = c .before .before .before .before .before .before .before .before .before .before .before .before .before .args in
+    let pre = c .before .before .before .before .before .before .before .before .before .before .before .before .before .pre in
+    let kind = c .before .before .before .before .before .before .before .kind in
+    let way-over = c .before .before .before .before .before .way-over in
+    let fields = c .before .before .before .fields in
+    let loop = c .before .loop in
+    let l : Led (args .words .now) (eqb (kind .given .0 .0) 3) (slotColumns (args .slots .now) (kind .given .0 .1 .0)) (args .section .now) (kind .given .0 .1 .1 .1 .0) ((fields .given .0) .0) ((fields .given .0) .1 .0) ((fields .given .0) .1 .1 .0) ((fields .given .0) .1 .1 .1 .0) ((fields .given .0) .1 .1 .1 .1 .0) = rw (fields .given .1) at (way-over .ensures) in omega (arith, loop .inv .far, loop .inv .most, l .few, l .small, pre .2)
+
+sub-put-row-2 : tie.Need-sub-put-row-2 Inv-loop μ-loop Inv-section μ-section
+sub-put-row-2 c =
+    let args = c .before .before .before .before .before .before .before .before .before .before .before .before .before .before .before .before .args in
+    let section = c .before .before .before .before .before .before .before .before .before .before .before .before .before .section in
+    let head-at = c .before .before .before .before .before .before .before .before .before .before .before .before .head-at in
+    let kind = c .before .before .before .before .before .before .before .before .before .before .kind in
+    let way-over = c .before .before .before .before .before .before .before .before .way-over in
+    let fields = c .before .before .before .before .before .before .fields in
+    let loop = c .before .before .before .before .loop in
+    let loop-test = c .before .before .before .loop-test in
+    let if2 = c .before .before .if2 in
+    let l : Led (args .words .now) (eqb (kind .given .0 .0) 3) (slotColumns (args .slots .now) (kind .given .0 .1 .0)) (args .section .now) (kind .given .0 .1 .1 .1 .0) ((fields .given .0) .0) ((fields .given .0) .1 .0) ((fields .given .0) .1 .1 .0) ((fields .given .0) .1 .1 .1 .0) ((fields .given .0) .1 .1 .1 .1 .0) = rw (fields .given .1) at (way-over .ensures) in
+    let ch = change-ended _ _ _ _ _ _ _ _ _ (section .inv) (kind .given .0 .0) (kind .given .0 .1 .0) (kind .given .0 .1 .1 .0) (kind .given .0 .1 .1 .1 .0) (loop .p + (fields .given .0) .1 .1 .1 .0) (sym (head-at .ensures) ∙ ap toldHead (kind .given .1)) (c .before .if3 .taken) (way-ended _ _ _ _ _ _ _ _ _ _ l _ _ (loop .inv) (loop-test .left) (if2 .left)) (omega (arith, loop .inv .behind)) (if2 .left) in
+    omega (arith, ch .0)
+
+cast-put-row-3 : tie.Need-cast-put-row-3 Inv-loop μ-loop Inv-section μ-section
+cast-put-row-3 c =
+    let pre = c .before .before .before .before .before .before .before .before .before .before .before .before .before .before .before .before .pre in
+    let shared-slice-known = c .before .before .before .before .before .before .before .before .before .before .before .before .before .before .before .shared-slice-known in
+    let section = c .before .before .before .before .before .before .before .before .before .before .before .before .before .section in
+    let head-at = c .before .before .before .before .before .before .before .before .before .before .before .before .head-at in
+    let kind = c .before .before .before .before .before .before .before .before .before .before .kind in
+    omega (arith, (head-ahead _ _ _ _ _ _ _ _ _ (section .inv) (kind .given .0 .0) (kind .given .0 .1 .0) (kind .given .0 .1 .1 .0) (kind .given .0 .1 .1 .1 .0) (pre .0 .top) (λ i. shared-slice-known .given i .fits) (sym (head-at .ensures) ∙ ap toldHead (kind .given .1))) .small)
+
+cast-put-row-4 : tie.Need-cast-put-row-4 Inv-loop μ-loop Inv-section μ-section
+cast-put-row-4 c =
+    let pre = c .before .before .before .before .before .before .before .before .before .before .before .before .before .before .before .before .pre in
+    let section = c .before .before .before .before .before .before .before .before .before .before .before .before .before .section in
+    omega (arith, section .inv .begun, pre .2)
+
+cast-put-row-5 : tie.Need-cast-put-row-5 Inv-loop μ-loop Inv-section μ-section
+cast-put-row-5 c =
+    let pre = c .before .before .before .before .before .before .before .before .before .before .before .before .before .before .before .before .pre in
+    let shared-slice-known = c .before .before .before .before .before .before .before .before .before .before .before .before .before .before .before .shared-slice-known in
+    let section = c .before .before .before .before .before .before .before .before .before .before .before .before .before .section in
+    let head-at = c .before .before .before .before .before .before .before .before .before .before .before .before .head-at in
+    let kind = c .before .before .before .before .before .before .before .before .before .before .kind in
+    omega (arith, (head-ahead _ _ _ _ _ _ _ _ _ (section .inv) (kind .given .0 .0) (kind .given .0 .1 .0) (kind .given .0 .1 .1 .0) (kind .given .0 .1 .1 .1 .0) (pre .0 .top) (λ i. shared-slice-known .given i .fits) (sym (head-at .ensures) ∙ ap toldHead (kind .given .1))) .within, pre .2)
+
+put-row-requires-2 : tie.Need-put-row-requires-2 Inv-loop μ-loop Inv-section μ-section
+put-row-requires-2 c κs =
+    let pre = c .before .before .before .before .before .before .before .before .before .before .before .before .before .before .before .before .pre in
+    let section = c .before .before .before .before .before .before .before .before .before .before .before .before .before .section in
+    omega (arith, section .inv .few, section .inv .inside, pre .2)
+
+section-less-2 : tie.Need-section-less-2 Inv-loop μ-loop Inv-section μ-section
+section-less-2 c =
+    let pre = c .before .before .before .before .before .before .before .before .before .before .before .before .before .before .before .before .before .before .before .pre in
+    let shared-slice-known = c .before .before .before .before .before .before .before .before .before .before .before .before .before .before .before .before .before .before .shared-slice-known in
+    let section = c .before .before .before .before .before .before .before .before .before .before .before .before .before .before .before .before .section in
+    let head-at = c .before .before .before .before .before .before .before .before .before .before .before .before .before .before .before .head-at in
+    let kind = c .before .before .before .before .before .before .before .before .before .before .before .before .before .kind in
+    let loop = c .before .before .before .before .before .before .before .loop in
+    let if2 = c .before .before .before .before .before .if2 in
+    omega (arith, (head-ahead _ _ _ _ _ _ _ _ _ (section .inv) (kind .given .0 .0) (kind .given .0 .1 .0) (kind .given .0 .1 .1 .0) (kind .given .0 .1 .1 .1 .0) (pre .0 .top) (λ i. shared-slice-known .given i .fits) (sym (head-at .ensures) ∙ ap toldHead (kind .given .1))) .behind, loop .inv .behind, if2 .left)
+
+section-again-2 : tie.Need-section-again-2 Inv-loop μ-loop Inv-section μ-section
+section-again-2 c =
+    let args = c .before .before .before .before .before .before .before .before .before .before .before .before .before .before .before .before .before .before .before .args in
+    let section = c .before .before .before .before .before .before .before .before .before .before .before .before .before .before .before .before .section in
+    let head-at = c .before .before .before .before .before .before .before .before .before .before .before .before .before .before .before .head-at in
+    let kind = c .before .before .before .before .before .before .before .before .before .before .before .before .before .kind in
+    let way-over = c .before .before .before .before .before .before .before .before .before .before .before .way-over in
+    let fields = c .before .before .before .before .before .before .before .before .before .fields in
+    let loop = c .before .before .before .before .before .before .before .loop in
+    let loop-test = c .before .before .before .before .before .before .loop-test in
+    let if2 = c .before .before .before .before .before .if2 in
+    let if3 = c .before .before .before .before .if3 in
+    let put-row2 = c .before .before .put-row2 in
+    let l : Led (args .words .now) (eqb (kind .given .0 .0) 3) (slotColumns (args .slots .now) (kind .given .0 .1 .0)) (args .section .now) (kind .given .0 .1 .1 .1 .0) ((fields .given .0) .0) ((fields .given .0) .1 .0) ((fields .given .0) .1 .1 .0) ((fields .given .0) .1 .1 .1 .0) ((fields .given .0) .1 .1 .1 .1 .0) = rw (fields .given .1) at (way-over .ensures) in
+    let ch = change-ended _ _ _ _ _ _ _ _ _ (section .inv) (kind .given .0 .0) (kind .given .0 .1 .0) (kind .given .0 .1 .1 .0) (kind .given .0 .1 .1 .1 .0) (loop .p + (fields .given .0) .1 .1 .1 .0) (sym (head-at .ensures) ∙ ap toldHead (kind .given .1)) (if3 .taken) (way-ended _ _ _ _ _ _ _ _ _ _ l _ _ (loop .inv) (loop-test .left) (if2 .left)) (omega (arith, loop .inv .behind)) (if2 .left) in
+    rw (put-row2 .ensures) (ch .1)
+
+cast-put-row-6 : tie.Need-cast-put-row-6 Inv-loop μ-loop Inv-section μ-section
+cast-put-row-6 c =
+    let pre = c .before .before .before .before .before .before .before .before .before .before .before .before .before .before .before .before .pre in
+    let shared-slice-known = c .before .before .before .before .before .before .before .before .before .before .before .before .before .before .before .shared-slice-known in
+    let section = c .before .before .before .before .before .before .before .before .before .before .before .before .before .section in
+    let head-at = c .before .before .before .before .before .before .before .before .before .before .before .before .head-at in
+    let kind = c .before .before .before .before .before .before .before .before .before .before .kind in
+    omega (arith, (head-ahead _ _ _ _ _ _ _ _ _ (section .inv) (kind .given .0 .0) (kind .given .0 .1 .0) (kind .given .0 .1 .1 .0) (kind .given .0 .1 .1 .1 .0) (pre .0 .top) (λ i. shared-slice-known .given i .fits) (sym (head-at .ensures) ∙ ap toldHead (kind .given .1))) .low)
+
+cast-put-row-7 : tie.Need-cast-put-row-7 Inv-loop μ-loop Inv-section μ-section
+cast-put-row-7 c =
+    let pre = c .before .before .before .before .before .before .before .before .before .before .before .before .before .before .before .before .pre in
+    let shared-slice-known = c .before .before .before .before .before .before .before .before .before .before .before .before .before .before .before .shared-slice-known in
+    let section = c .before .before .before .before .before .before .before .before .before .before .before .before .before .section in
+    let head-at = c .before .before .before .before .before .before .before .before .before .before .before .before .head-at in
+    let kind = c .before .before .before .before .before .before .before .before .before .before .kind in
+    omega (arith, (head-ahead _ _ _ _ _ _ _ _ _ (section .inv) (kind .given .0 .0) (kind .given .0 .1 .0) (kind .given .0 .1 .1 .0) (kind .given .0 .1 .1 .1 .0) (pre .0 .top) (λ i. shared-slice-known .given i .fits) (sym (head-at .ensures) ∙ ap toldHead (kind .given .1))) .small)
+
+cast-put-row-8 : tie.Need-cast-put-row-8 Inv-loop μ-loop Inv-section μ-section
+cast-put-row-8 c =
+    let pre = c .before .before .before .before .before .before .before .before .before .before .before .before .before .before .before .before .pre in
+    let shared-slice-known = c .before .before .before .before .before .before .before .before .before .before .before .before .before .before .before .shared-slice-known in
+    let section = c .before .before .before .before .before .before .before .before .before .before .before .before .before .section in
+    let head-at = c .before .before .before .before .before .before .before .before .before .before .before .before .head-at in
+    let kind = c .before .before .before .before .before .before .before .before .before .before .kind in
+    omega (arith, (head-ahead _ _ _ _ _ _ _ _ _ (section .inv) (kind .given .0 .0) (kind .given .0 .1 .0) (kind .given .0 .1 .1 .0) (kind .given .0 .1 .1 .1 .0) (pre .0 .top) (λ i. shared-slice-known .given i .fits) (sym (head-at .ensures) ∙ ap toldHead (kind .given .1))) .within, pre .2)
+
+put-row-requires-3 : tie.Need-put-row-requires-3 Inv-loop μ-loop Inv-section μ-section
+put-row-requires-3 c κs =
+    let pre = c .before .before .before .before .before .before .before .before .before .before .before .before .before .before .before .before .pre in
+    let section = c .before .before .before .before .before .before .before .before .before .before .before .before .before .section in
+    omega (arith, section .inv .few, section .inv .inside, pre .2)
+
+add-rows : tie.Need-add-rows Inv-loop μ-loop Inv-section μ-section
+add-rows c =
+    let pre = c .before .before .before .before .before .before .before .before .before .before .before .before .before .before .before .before .before .before .before .pre in
+    let section = c .before .before .before .before .before .before .before .before .before .before .before .before .before .before .before .before .section in
+    omega (arith, section .inv .few, section .inv .inside, pre .2)
+
+section-less-3 : tie.Need-section-less-3 Inv-loop μ-loop Inv-section μ-section
+section-less-3 c =
+    let pre = c .before .before .before .before .before .before .before .before .before .before .before .before .before .before .before .before .before .before .before .pre in
+    let shared-slice-known = c .before .before .before .before .before .before .before .before .before .before .before .before .before .before .before .before .before .before .shared-slice-known in
+    let section = c .before .before .before .before .before .before .before .before .before .before .before .before .before .before .before .before .section in
+    let head-at = c .before .before .before .before .before .before .before .before .before .before .before .before .before .before .before .head-at in
+    let kind = c .before .before .before .before .before .before .before .before .before .before .before .before .before .kind in
+    let loop = c .before .before .before .before .before .before .before .loop in
+    let if2 = c .before .before .before .before .before .if2 in
+    omega (arith, (head-ahead _ _ _ _ _ _ _ _ _ (section .inv) (kind .given .0 .0) (kind .given .0 .1 .0) (kind .given .0 .1 .1 .0) (kind .given .0 .1 .1 .1 .0) (pre .0 .top) (λ i. shared-slice-known .given i .fits) (sym (head-at .ensures) ∙ ap toldHead (kind .given .1))) .behind, loop .inv .behind, if2 .left)
+
+section-again-3 : tie.Need-section-again-3 Inv-loop μ-loop Inv-section μ-section
+section-again-3 c =
+    let args = c .before .before .before .before .before .before .before .before .before .before .before .before .before .before .before .before .before .before .before .args in
+    let pre = c .before .before .before .before .before .before .before .before .before .before .before .before .before .before .before .before .before .before .before .pre in
+    let section = c .before .before .before .before .before .before .before .before .before .before .before .before .before .before .before .before .section in
+    let head-at = c .before .before .before .before .before .before .before .before .before .before .before .before .before .before .before .head-at in
+    let kind = c .before .before .before .before .before .before .before .before .before .before .before .before .before .kind in
+    let way-over = c .before .before .before .before .before .before .before .before .before .before .before .way-over in
+    let fields = c .before .before .before .before .before .before .before .before .before .fields in
+    let loop = c .before .before .before .before .before .before .before .loop in
+    let loop-test = c .before .before .before .before .before .before .loop-test in
+    let if2 = c .before .before .before .before .before .if2 in
+    let if3 = c .before .before .before .before .if3 in
+    let put-row3 = c .before .before .put-row3 in
+    let l : Led (args .words .now) (eqb (kind .given .0 .0) 3) (slotColumns (args .slots .now) (kind .given .0 .1 .0)) (args .section .now) (kind .given .0 .1 .1 .1 .0) ((fields .given .0) .0) ((fields .given .0) .1 .0) ((fields .given .0) .1 .1 .0) ((fields .given .0) .1 .1 .1 .0) ((fields .given .0) .1 .1 .1 .1 .0) = rw (fields .given .1) at (way-over .ensures) in
+    rw (put-row3 .ensures) (row-ended _ _ _ _ _ _ _ _ _ (section .inv) (kind .given .0 .0) (kind .given .0 .1 .0) (kind .given .0 .1 .1 .0) (kind .given .0 .1 .1 .1 .0) (loop .p + (fields .given .0) .1 .1 .1 .0) (pre .0 .top) (sym (head-at .ensures) ∙ ap toldHead (kind .given .1)) (if3 .left) (way-ended _ _ _ _ _ _ _ _ _ _ l _ _ (loop .inv) (loop-test .left) (if2 .left)) (omega (arith, loop .inv .behind)) (if2 .left))
+
+same-length : tie.Need-same-length Inv-loop μ-loop Inv-section μ-section
+same-length c =
+    let section = c .before .before .before .before .section in
+    table-long _ _ _ _ _ _ _ _ _ (section .inv)
+
+returns : tie.Need-returns Inv-loop μ-loop Inv-section μ-section
+returns c =
+    let section = c .before .before .before .before .section in
+    let head-at = c .before .before .before .head-at in
+    scanned-refused _ _ _ _ _ _ (head-refused _ _ _ _ _ _ _ _ _ (section .inv) (sym (head-at .ensures) ∙ ap toldHead (c .before .e .given .1)))
+
+same-length-2 : tie.Need-same-length-2 Inv-loop μ-loop Inv-section μ-section
+same-length-2 c =
+    let section = c .before .before .before .section in
+    table-long _ _ _ _ _ _ _ _ _ (section .inv)
+
+returns-2 : tie.Need-returns-2 Inv-loop μ-loop Inv-section μ-section
+returns-2 c =
+    let section = c .before .before .before .section in
+    let head-at = c .before .before .head-at in
+    scanned-rows _ _ _ _ _ _ _ _ _ (section .inv) (sym (head-at .ensures) ∙ ap toldHead (c .enum-told .given .1))
+
+same-length-3 : tie.Need-same-length-3 Inv-loop μ-loop Inv-section μ-section
+same-length-3 c =
+    let section = c .before .before .before .before .before .before .before .before .section in
+    table-long _ _ _ _ _ _ _ _ _ (section .inv)
+
+returns-3 : tie.Need-returns-3 Inv-loop μ-loop Inv-section μ-section
+returns-3 c =
+    let args = c .before .before .before .before .before .before .before .before .before .before .before .args in
+    let pre = c .before .before .before .before .before .before .before .before .before .before .before .pre in
+    let shared-slice-known = c .before .before .before .before .before .before .before .before .before .before .shared-slice-known in
+    let section = c .before .before .before .before .before .before .before .before .section in
+    let head-at = c .before .before .before .before .before .before .before .head-at in
+    let kind = c .before .before .before .before .before .kind in
+    let way-over = c .before .before .before .way-over in
+    let e2 = c .before .e2 in
+    let r : dataEnd (eqb (kind .given .0 .0) 3) (slotColumns (args .slots .now) (kind .given .0 .1 .0)) (args .section .now) (kind .given .0 .1 .1 .1 .0) ≡ refused (e2 .given .0 .0) = rw (e2 .given .1) at (way-over .ensures) in
+    scanned-refused _ _ _ _ _ _ (data-refused _ _ _ _ _ _ _ _ _ (section .inv) (kind .given .0 .0) (kind .given .0 .1 .0) (kind .given .0 .1 .1 .0) (kind .given .0 .1 .1 .1 .0) (sym (head-at .ensures) ∙ ap toldHead (kind .given .1)) ((head-ahead _ _ _ _ _ _ _ _ _ (section .inv) (kind .given .0 .0) (kind .given .0 .1 .0) (kind .given .0 .1 .1 .0) (kind .given .0 .1 .1 .1 .0) (pre .0 .top) (λ i. shared-slice-known .given i .fits) (sym (head-at .ensures) ∙ ap toldHead (kind .given .1))) .number) r)
+
+same-length-4 : tie.Need-same-length-4 Inv-loop μ-loop Inv-section μ-section
+same-length-4 c =
+    let section = c .before .before .before .before .before .before .before .before .before .before .before .before .before .before .before .before .before .section in
+    table-long _ _ _ _ _ _ _ _ _ (section .inv)
+
+returns-4 : tie.Need-returns-4 Inv-loop μ-loop Inv-section μ-section
+returns-4 c =
+    let args = c .before .before .before .before .before .before .before .before .before .before .before .before .before .before .before .before .before .before .before .before .args in
+    let pre = c .before .before .before .before .before .before .before .before .before .before .before .before .before .before .before .before .before .before .before .before .pre in
+    let shared-slice-known = c .before .before .before .before .before .before .before .before .before .before .before .before .before .before .before .before .before .before .before .shared-slice-known in
+    let section = c .before .before .before .before .before .before .before .before .before .before .before .before .before .before .before .before .before .section in
+    let head-at = c .before .before .before .before .before .before .before .before .before .before .before .before .before .before .before .before .head-at in
+    let kind = c .before .before .before .before .before .before .before .before .before .before .before .before .before .before .kind in
+    let way-over = c .before .before .before .before .before .before .before .before .before .before .before .before .way-over in
+    let fields = c .before .before .before .before .before .before .before .before .before .before .fields in
+    let loop = c .before .before .before .before .before .before .before .before .loop in
+    let loop-test = c .before .before .before .before .before .before .before .loop-test in
+    let has-word = c .before .before .before .before .before .has-word in
+    let span-at = c .before .before .before .before .span-at in
+    let k = c .before .before .k in
+    let l : Led (args .words .now) (eqb (kind .given .0 .0) 3) (slotColumns (args .slots .now) (kind .given .0 .1 .0)) (args .section .now) (kind .given .0 .1 .1 .1 .0) ((fields .given .0) .0) ((fields .given .0) .1 .0) ((fields .given .0) .1 .1 .0) ((fields .given .0) .1 .1 .1 .0) ((fields .given .0) .1 .1 .1 .1 .0) = rw (fields .given .1) at (way-over .ensures) in
+    let sp : SpanIs (columnOf (getD (args .words .now) ((fields .given .0) .1 .0 + loop .j) 0)) (args .section .now) (loop .p + gapOf (getD (args .words .now) ((fields .given .0) .1 .0 + loop .j) 0)) (span.Refused (k .given .0 .0)) = rw (k .given .1) at (span-at .ensures) in
+    scanned-refused _ _ _ _ _ _ (data-refused _ _ _ _ _ _ _ _ _ (section .inv) (kind .given .0 .0) (kind .given .0 .1 .0) (kind .given .0 .1 .1 .0) (kind .given .0 .1 .1 .1 .0) (sym (head-at .ensures) ∙ ap toldHead (kind .given .1)) ((head-ahead _ _ _ _ _ _ _ _ _ (section .inv) (kind .given .0 .0) (kind .given .0 .1 .0) (kind .given .0 .1 .1 .0) (kind .given .0 .1 .1 .1 .0) (pre .0 .top) (λ i. shared-slice-known .given i .fits) (sym (head-at .ensures) ∙ ap toldHead (kind .given .1))) .number) (way-refused _ _ _ _ _ _ _ _ _ _ l _ _ (loop .inv) (loop-test .taken) _ refl (k .given .0 .0) (has-word .result) (has-word .ensures .0) (c .if1 .taken) sp))
+
+same-length-5 : tie.Need-same-length-5 Inv-loop μ-loop Inv-section μ-section
+same-length-5 c =
+    let section = c .before .before .before .before .before .before .before .before .before .before .before .section in
+    table-long _ _ _ _ _ _ _ _ _ (section .inv)
+
+returns-5 : tie.Need-returns-5 Inv-loop μ-loop Inv-section μ-section
+returns-5 c =
+    let args = c .before .before .before .before .before .before .before .before .before .before .before .before .before .before .args in
+    let pre = c .before .before .before .before .before .before .before .before .before .before .before .before .before .before .pre in
+    let shared-slice-known = c .before .before .before .before .before .before .before .before .before .before .before .before .before .shared-slice-known in
+    let section = c .before .before .before .before .before .before .before .before .before .before .before .section in
+    let head-at = c .before .before .before .before .before .before .before .before .before .before .head-at in
+    let kind = c .before .before .before .before .before .before .before .before .kind in
+    let way-over = c .before .before .before .before .before .before .way-over in
+    let fields = c .before .before .before .before .fields in
+    let loop = c .before .before .loop in
+    let l : Led (args .words .now) (eqb (kind .given .0 .0) 3) (slotColumns (args .slots .now) (kind .given .0 .1 .0)) (args .section .now) (kind .given .0 .1 .1 .1 .0) ((fields .given .0) .0) ((fields .given .0) .1 .0) ((fields .given .0) .1 .1 .0) ((fields .given .0) .1 .1 .1 .0) ((fields .given .0) .1 .1 .1 .1 .0) = rw (fields .given .1) at (way-over .ensures) in
+    scanned-refused _ _ _ _ _ _ (data-refused _ _ _ _ _ _ _ _ _ (section .inv) (kind .given .0 .0) (kind .given .0 .1 .0) (kind .given .0 .1 .1 .0) (kind .given .0 .1 .1 .1 .0) (sym (head-at .ensures) ∙ ap toldHead (kind .given .1)) ((head-ahead _ _ _ _ _ _ _ _ _ (section .inv) (kind .given .0 .0) (kind .given .0 .1 .0) (kind .given .0 .1 .1 .0) (kind .given .0 .1 .1 .1 .0) (pre .0 .top) (λ i. shared-slice-known .given i .fits) (sym (head-at .ensures) ∙ ap toldHead (kind .given .1))) .number) (way-short _ _ _ _ _ _ _ _ _ _ l _ _ (loop .inv) (c .before .loop-test .left) (c .if2 .taken)))
+
+pub scan-spec : {M : Type 1} → statement M
+scan-spec =
+    tie.close
+    (tie.spec
+    Inv-loop
+    μ-loop
+    Inv-section
+    μ-section
+    section-holds
+    head-at-requires
+    (λ c. search needs)
+    (λ c. search needs)
+    (λ c. search needs)
+    sub-put-row
+    cast-put-row
+    cast-put-row-2
+    put-row-requires
+    add-at
+    section-less
+    section-again
+    (λ c. search needs)
+    way-over-requires
+    (λ c. search needs)
+    (λ c. search needs)
+    loop-holds
+    add-word
+    mul-word
+    element-copy-out-word
+    add-q
+    has-word-requires
+    span-at-requires
+    (λ c. search needs)
+    (λ c. search needs)
+    (λ c. search needs)
+    loop-again
+    (λ c. search needs)
+    mul-p
+    add-p
+    (λ c. search needs)
+    (λ c. search needs)
+    loop-again-2
+    add-end
+    sub-put-row-2
+    cast-put-row-3
+    cast-put-row-4
+    cast-put-row-5
+    put-row-requires-2
+    section-less-2
+    section-again-2
+    cast-put-row-6
+    cast-put-row-7
+    cast-put-row-8
+    put-row-requires-3
+    add-rows
+    section-less-3
+    section-again-3
+    same-length
+    returns
+    same-length-2
+    returns-2
+    same-length-3
+    returns-3
+    same-length-4
+    returns-4
+    same-length-5
+    returns-5)

@@ -1,0 +1,159 @@
+// The head of an element: its token and its child id.
+ghost use mathlib.Core.Path.{_≡_};
+ghost use Prim.Native.Nat.{_<_, _≤_};
+ghost use lib.ListN.{length};
+ghost use Rattle.wire.specs.Integers.{toldInt};
+ghost use Rattle.schema.specs.Table.{schemasIn};
+ghost use Rattle.section.specs.Shapes.{Sound};
+ghost use Rattle.section.specs.Heads.{headAt, headBy, beforeIn, pairedId, toldHead};
+ghost use Rattle.section.specs.Reader.{childToken};
+use crate::children::find_child;
+use crate::children::id_in;
+use wire::error::Error;
+use wire::error::ErrorKind;
+use wire::error::Input;
+use wire::integer::IntRead;
+use wire::integer::u32_at;
+
+// Tokens of the elements, and of the section's end.
+const PARENT: u8 = 0x07;
+
+const CHILD: u8 = 0x87;
+
+const CHANGE: u8 = 0x8A;
+
+const DELETE: u8 = 0x8C;
+
+const DONE: u8 = 0x0F;
+
+// A head that was read. Of row data: the kind of its row so far, the number of its schema, its child id, where the data start.
+pub enum Head {
+    Done,
+    Delete(usize),
+    Data {
+        kind: usize,
+        number: usize,
+        id: usize,
+        start: usize,
+    },
+    Refused(Error),
+}
+
+// An 87 element's head.
+fn child_head<'a>(
+    slots: &'a [u64; 512],
+    numbers: &'a [u8; 256],
+    schemas: usize,
+    section: &[u8],
+    at: usize,
+) -> Head
+    requires { ⌜ Sound (now slots) schemas × (at < length (now section)) ⌝ }
+    ensures { λ r. ⌜ toldHead r ≡ headBy (schemasIn 0 schemas (now (slots .entry))) (now (section .entry)) (beforeIn (now (slots .entry)) 0) at childToken ⌝ }
+{
+    match u32_at(section, at + 1) {
+        IntRead::Refused(e) => Head::Refused(e),
+        IntRead::Int(id) => {
+            let number = find_child(slots, numbers, schemas, id);
+            if number == 0 {
+                return Head::Refused(Error {
+                    kind: ErrorKind::UnknownId,
+                    offset: at,
+                    input: Input::Single,
+                });
+            }
+            Head::Data {
+                kind: 2,
+                number,
+                id,
+                start: at + 5,
+            }
+        }
+    }
+}
+
+// The child id behind a token, where it is that of the 87 element directly before, whose schema has the number `child`.
+fn paired_id(slots: &[u64; 512], section: &[u8], at: usize, child: usize) -> IntRead
+    requires { ⌜ (child < 256) × (at < length (now section)) ⌝ }
+    ensures { λ r. ⌜ toldInt r ≡ pairedId (now (section .entry)) (beforeIn (now (slots .entry)) child) at ⌝ }
+{
+    match u32_at(section, at + 1) {
+        IntRead::Refused(e) => IntRead::Refused(e),
+        IntRead::Int(id) => {
+            if 0 < child {
+                if id_in(slots[256 + child]) == id {
+                    return IntRead::Int(id);
+                }
+            }
+            IntRead::Refused(Error {
+                kind: ErrorKind::Unpaired,
+                offset: at,
+                input: Input::Single,
+            })
+        }
+    }
+}
+
+// The head of the element at `at`, where `child` is the schema number of an 87 element directly before it, else 0.
+pub fn head_at<'a>(
+    slots: &'a [u64; 512],
+    numbers: &'a [u8; 256],
+    schemas: usize,
+    section: &[u8],
+    at: usize,
+    child: usize,
+) -> Head
+    requires { ⌜ Sound (now slots) schemas × (child < schemas) × (length (now section) ≤ 16777216) ⌝ }
+    ensures { λ r. ⌜ toldHead r ≡ headAt (schemasIn 0 schemas (now (slots .entry))) (now (section .entry)) (beforeIn (now (slots .entry)) child) at ⌝ }
+{
+    if section.len() <= at {
+        return Head::Refused(Error {
+            kind: ErrorKind::Short,
+            offset: section.len(),
+            input: Input::Single,
+        });
+    }
+    let token = section[at];
+    if token == PARENT {
+        return Head::Data {
+            kind: 1,
+            number: 0,
+            id: 0,
+            start: at + 1,
+        };
+    }
+    if token == CHILD {
+        return child_head(slots, numbers, schemas, section, at);
+    }
+    if token == CHANGE {
+        return match paired_id(slots, section, at, child) {
+            IntRead::Refused(e) => Head::Refused(e),
+            IntRead::Int(id) => Head::Data {
+                kind: 3,
+                number: child,
+                id,
+                start: at + 5,
+            },
+        };
+    }
+    if token == DELETE {
+        return match paired_id(slots, section, at, child) {
+            IntRead::Refused(e) => Head::Refused(e),
+            IntRead::Int(id) => Head::Delete(id),
+        };
+    }
+    if token == DONE {
+        if section.len() == at + 1 {
+            return Head::Done;
+        }
+        return Head::Refused(Error {
+            kind: ErrorKind::Trailing,
+            offset: at + 1,
+            input: Input::Single,
+        });
+    }
+    Head::Refused(Error {
+        kind: ErrorKind::UnknownToken,
+        offset: at,
+        input: Input::Single,
+    })
+}

@@ -1,0 +1,213 @@
+// The row section reader: a pass over a section, element by element and column by column, and the table of rows that it fills.
+ghost use mathlib.Core.Path.{_≡_};
+ghost use Prim.Native.Nat.{_*_, _≤_, _<_};
+ghost use lib.ListN.{length};
+ghost use Rattle.wire.specs.Output.{put};
+ghost use Rattle.schema.specs.Table.{schemasIn};
+ghost use Rattle.section.specs.Grammar.{entry};
+ghost use Rattle.section.specs.Reader.{section as sectionRows};
+ghost use Rattle.section.specs.Shapes.{Sound, Shaped};
+ghost use Rattle.section.specs.Table.{rowNumbers, rowsFitting, rowsRead, Listed};
+ghost use Rattle.section.specs.Scan.{Scanned};
+ghost use Rattle.section.specs.declared.read.RowsRead.the-variants as read;
+use crate::children::guesses;
+use crate::heads::Head;
+use crate::heads::head_at;
+use crate::shapes::add_forms;
+use crate::shapes::add_updates;
+use crate::steps::Span;
+use crate::steps::has_word;
+use crate::steps::span_at;
+use crate::ways::Way;
+use crate::ways::way_over;
+use schema::reader::PlaceRead;
+use schema::reader::read_file;
+use wire::LIMIT;
+use wire::error::Error;
+use wire::error::ErrorKind;
+use wire::error::Input;
+
+// How many rows a section has, or why it is refused.
+pub enum RowsRead {
+    Rows(usize),
+    Refused(Error),
+}
+
+// Writes row `i` into a table, where it has room for that row.
+fn put_row(table: &mut [u32], i: usize, kind: u32, id: u32, original: u32, update: u32)
+    requires { ⌜ i ≤ 16777216 ⌝ }
+    ensures { λ r. ⌜ now (table .exit) ≡ put (now (table .entry)) (4 * i) (rowNumbers (entry kind id original update)) ⌝ }
+{
+    let at = 4 * i;
+    if table.len() < at + 4 {
+        return;
+    }
+    table[at] = kind;
+    table[at + 1] = id;
+    table[at + 2] = original;
+    table[at + 3] = update;
+}
+
+// One pass over a section: how many rows it has, or the first error. Rows that the table has room for are written into it.
+fn scan<'a>(
+    slots: &'a [u64; 512],
+    words: &'a [u64; 512],
+    forms: &'a [u64; 256],
+    numbers: &'a [u8; 256],
+    schemas: usize,
+    section: &[u8],
+    table: &mut [u32],
+) -> RowsRead
+    requires { ⌜ Sound (now slots) schemas × Shaped (now slots) (now words) (now forms) schemas × (length (now section) ≤ 16777216) ⌝ }
+    ensures { λ r. ⌜ Scanned (sectionRows (schemasIn 0 schemas (now (slots .entry))) (now (section .entry))) (now (table .entry)) (now (table .exit)) r ⌝ }
+{
+    let mut at = 0;
+    let mut rows = 0;
+    let mut child = 0;
+    let mut origin = 0;
+    let answer = 'section: loop {
+        match head_at(slots, numbers, schemas, section, at, child) {
+            Head::Refused(e) => {
+                break 'section RowsRead::Refused(e);
+            }
+            Head::Done => {
+                break 'section RowsRead::Rows(rows);
+            }
+            Head::Delete(id) => {
+                put_row(table, rows - 1, 4, id as u32, origin as u32, 0);
+                at += 5;
+                child = 0;
+            }
+            Head::Data {
+                kind,
+                number,
+                id,
+                start,
+            } => {
+                let update = kind == 3;
+                match way_over(slots, words, forms, schemas, number, update, section, start) {
+                    Way::Refused(e) => {
+                        break 'section RowsRead::Refused(e);
+                    }
+                    Way::Open {
+                        fields,
+                        first,
+                        count,
+                        tail,
+                        force,
+                    } => {
+                        let mut p = fields;
+                        let mut j = 0;
+                        while j < count {
+                            let word = words[first + j];
+                            let q = p + (word / 4_294_967_296 % 65_536) as usize;
+                            let has = has_word(section, update, start, force, word, j);
+                            match span_at(word, section, q) {
+                                Span::Refused(k) => {
+                                    if has == 1 {
+                                        break 'section RowsRead::Refused(Error {
+                                            kind: k,
+                                            offset: q,
+                                            input: Input::Single,
+                                        });
+                                    }
+                                    p = q;
+                                    j += 1;
+                                }
+                                Span::Bytes(n) => {
+                                    p = q + n * has;
+                                    j += 1;
+                                }
+                            }
+                        }
+                        let end = p + tail;
+                        if section.len() < end {
+                            break 'section RowsRead::Refused(Error {
+                                kind: ErrorKind::Short,
+                                offset: section.len(),
+                                input: Input::Single,
+                            });
+                        }
+                        at = end;
+                        if update {
+                            put_row(table, rows - 1, 3, id as u32, origin as u32, start as u32);
+                            child = 0;
+                        } else {
+                            put_row(table, rows, kind as u32, id as u32, start as u32, 0);
+                            rows += 1;
+                            child = number;
+                            origin = start;
+                        }
+                    }
+                }
+            }
+        }
+    };
+    answer
+}
+
+// The same error, about an input of a call with several.
+fn refuse(e: Error, name: Input) -> RowsRead
+    ensures { λ r. ⌜ r ≡ read.Refused (record { kind = e .kind; offset = e .offset; input = name }) ⌝ }
+{
+    let kind = e.kind;
+    RowsRead::Refused(Error {
+        kind,
+        offset: e.offset,
+        input: name,
+    })
+}
+
+// Reads a section by the schemas in a table of slots: first a pass that only counts, then, where the table has room, one that fills it.
+fn read_rows(slots: &[u64; 512], schemas: usize, section: &[u8], table: &mut [u32]) -> RowsRead
+    requires { ⌜ Sound (now slots) schemas × (length (now section) ≤ 16777216) ⌝ }
+    ensures { λ r. ⌜ Listed (rowsFitting (schemasIn 0 schemas (now (slots .entry))) (now (section .entry)) (length (now (table .entry)))) (now (table .entry)) (now (table .exit)) r ⌝ }
+{
+    let mut words = [0u64; 512];
+    let mut forms = [0u64; 256];
+    add_updates(slots, &mut words);
+    add_forms(slots, schemas, &mut words, &mut forms);
+    let numbers = guesses(slots, schemas);
+    let mut none = [0u32; 1];
+    match scan(slots, &words, &forms, &numbers, schemas, section, &mut none) {
+        RowsRead::Refused(e) => refuse(e, Input::Section),
+        RowsRead::Rows(n) => {
+            if table.len() / 4 < n {
+                return RowsRead::Refused(Error {
+                    kind: ErrorKind::Capacity,
+                    offset: n,
+                    input: Input::Table,
+                });
+            }
+            scan(slots, &words, &forms, &numbers, schemas, section, table)
+        }
+    }
+}
+
+// Reads a whole section into a table of rows, four numbers a row; an error leaves the table as it was.
+pub fn read_section(file: &[u8], section: &[u8], table: &mut [u32]) -> RowsRead
+    ensures { λ r. ⌜ Listed (rowsRead (now (file .entry)) (now (section .entry)) (length (now (table .entry)))) (now (table .entry)) (now (table .exit)) r ⌝ }
+{
+    if file.len() > LIMIT {
+        return RowsRead::Refused(Error {
+            kind: ErrorKind::TooLarge,
+            offset: 0,
+            input: Input::Schema,
+        });
+    }
+    if section.len() > LIMIT {
+        return RowsRead::Refused(Error {
+            kind: ErrorKind::TooLarge,
+            offset: 0,
+            input: Input::Section,
+        });
+    }
+    let mut slots = [0u64; 512];
+    match read_file(file, &mut slots) {
+        PlaceRead::Refused(e) => refuse(e, Input::Schema),
+        PlaceRead::Read(p) => {
+            let schemas = p.schemas;
+            read_rows(&slots, schemas, section, table)
+        }
+    }
+}
