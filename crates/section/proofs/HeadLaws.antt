@@ -19,8 +19,8 @@ use Rattle.schema.specs.Schemas.{Schema, childNumber}
 use Rattle.schema.specs.Table.{schemaSlot, idIn, schemasIn}
 use Rattle.schema.specs.Questions.{or0}
 use Rattle.schema.proofs.Children.{child-found}
-use Rattle.section.specs.Grammar.{Before, other}
-use Rattle.section.specs.Reader.{Token, childToken, changeToken, deleteToken, doneToken, unknownToken, tokenOf, knownChild, follows, idAt}
+use Rattle.grammar.specs.Grammar.{Before, other}
+use Rattle.grammar.specs.Reader.{Token, childToken, changeToken, deleteToken, doneToken, unknownToken, tokenOf, knownChild, follows, idAt}
 use Rattle.section.specs.Heads.{doneHead, deleteHead, dataHead, headBy, headAt, beforeIn, pairedId}
 use Rattle.section.specs.Shapes.{Sound}
 

@@ -12,7 +12,7 @@ use borrow.Author.Tests.{leb-true, leb-false}
 use Rattle.wire.specs.Read.{Bytes}
 use Rattle.wire.specs.Output.{put}
 use Rattle.wire.proofs.Laws.{put-fits, put-not, put-paste, length-put, put-put}
-use Rattle.section.specs.Grammar.{Row}
+use Rattle.grammar.specs.Grammar.{Row}
 use Rattle.section.specs.Table.{rowNumbers, tableNumbers}
 use Rattle.section.specs.Scan.{laidFrom}
 

@@ -1,13 +1,3 @@
-pub mod Maps
-pub mod Rows
-pub mod Ends
-pub mod Pending
-pub mod Sections
-pub mod RowErrors
-pub mod Errors
-pub mod Demand
-pub mod Usable
-pub mod Examples
 pub mod Slots
 pub mod Quiet
 pub mod HeadLaws

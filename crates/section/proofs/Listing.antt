@@ -19,8 +19,8 @@ use Rattle.wire.proofs.Pieces.{bad-ok}
 use Rattle.schema.specs.Schemas.{Schema, readSchemas}
 use Rattle.section.specs.declared.read.RowsRead.{RowsRead}
 use Rattle.section.specs.declared.read.RowsRead.the-variants as read
-use Rattle.section.specs.Grammar.{Row}
-use Rattle.section.specs.Reader.{section}
+use Rattle.grammar.specs.Grammar.{Row}
+use Rattle.grammar.specs.Reader.{section}
 use Rattle.section.specs.Table.{roomFor, tableNumbers, rowsFitting, rowsRead, tableAfter, rowCount, toldRows, Listed}
 use Rattle.section.specs.Scan.{Scanned}
 use Rattle.section.proofs.Laid.{laid-all}

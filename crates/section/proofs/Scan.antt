@@ -21,15 +21,15 @@ use Rattle.schema.proofs.TableSays.{schemas-in-length, schemas-in-at}
 use Rattle.schema.proofs.Children.{child-found}
 use Rattle.section.specs.declared.read.RowsRead.{RowsRead}
 use Rattle.section.specs.declared.read.RowsRead.the-variants as read
-use Rattle.section.specs.Grammar.{Before, other, after, columnsAt, Row, entry}
-use Rattle.section.specs.Reader.{section}
-use Rattle.section.specs.Pending.{Pending, nothing, child-row, beforeOf, flush, close, rowsFrom}
+use Rattle.grammar.specs.Grammar.{Before, other, after, columnsAt, Row, entry}
+use Rattle.grammar.specs.Reader.{section}
+use Rattle.grammar.specs.Pending.{Pending, nothing, child-row, beforeOf, flush, close, rowsFrom}
 use Rattle.section.specs.Heads.{HeadAt, doneHead, deleteHead, dataHead, headAt, beforeIn, pendingIn}
 use Rattle.section.specs.Table.{rowNumbers, rowCount, toldRows}
 use Rattle.section.specs.Scan.{laidFrom, Scanned}
 use Rattle.section.specs.Shapes.{slotColumns}
 use Rattle.section.specs.Ways.{dataEnd}
-use Rattle.section.proofs.Pending.{rows-are-section}
+use Rattle.grammar.proofs.Pending.{rows-are-section}
 use Rattle.section.proofs.Turns.{resumed, pendingAfter, rowsAfter, rows-step, before-pending, HeadTold, told-done, told-delete, told-parent, told-child, told-change, head-told, id-small}
 use Rattle.section.proofs.Laid.{laid-more, laid-again, length-laid}
 

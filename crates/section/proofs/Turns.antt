@@ -14,9 +14,9 @@ use Rattle.wire.specs.Integers.{valueOf, intAt}
 use Rattle.wire.specs.Read.{Bytes, AreBytes, cut, Read, ok, bad, _>>=_, pick, check, whole}
 use Rattle.schema.specs.Schemas.{Schema, childNumber}
 use Rattle.wire.proofs.Pieces.{bind-ok, check-ok, ok-ok, bad-ok, cut-length, value-small, bytes-take, bytes-drop}
-use Rattle.section.specs.Grammar.{Before, other, after, columnsAt, Row, entry}
-use Rattle.section.specs.Reader.{Token, parentToken, childToken, changeToken, deleteToken, doneToken, unknownToken, tokenOf, knownChild, follows, idAt}
-use Rattle.section.specs.Pending.{Pending, nothing, child-row, beforeOf, flush, close, turn, rowsFrom}
+use Rattle.grammar.specs.Grammar.{Before, other, after, columnsAt, Row, entry}
+use Rattle.grammar.specs.Reader.{Token, parentToken, childToken, changeToken, deleteToken, doneToken, unknownToken, tokenOf, knownChild, follows, idAt}
+use Rattle.grammar.specs.Pending.{Pending, nothing, child-row, beforeOf, flush, close, turn, rowsFrom}
 use Rattle.section.specs.Heads.{HeadAt, doneHead, deleteHead, dataHead, headBy, headAt, beforeIn, pendingIn}
 use Rattle.section.specs.Ways.{dataEnd}
 

@@ -9,10 +9,10 @@ use Rattle.wire.specs.Read.{Bytes, Read, ok, bad, _>>=_, check, whole, refused}
 use Rattle.schema.specs.Schemas.{Schema, childNumber}
 use Rattle.section.specs.declared.heads.Head.{Head}
 use Rattle.section.specs.declared.heads.Head.the-variants as head
-use Rattle.section.specs.Reader.{Token, parentToken, childToken, changeToken, deleteToken, doneToken, unknownToken, tokenOf, knownChild, follows, idAt}
+use Rattle.grammar.specs.Reader.{Token, parentToken, childToken, changeToken, deleteToken, doneToken, unknownToken, tokenOf, knownChild, follows, idAt}
 use Rattle.schema.specs.Table.{schemaSlot, idIn}
-use Rattle.section.specs.Grammar.{Before, other, after}
-use Rattle.section.specs.Pending.{Pending, nothing, child-row}
+use Rattle.grammar.specs.Grammar.{Before, other, after}
+use Rattle.grammar.specs.Pending.{Pending, nothing, child-row}
 
 -- A head: the section is done; an 8C; or row data of a kind of the row table (1 parent, 2 child, 3 change), under a schema number, with a
 -- child id (0 for a parent), from a start on.

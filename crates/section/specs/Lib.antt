@@ -1,6 +1,3 @@
-pub mod Grammar
-pub mod Reader
-pub mod Pending
 pub mod Steps
 pub mod Spans
 pub mod Shapes

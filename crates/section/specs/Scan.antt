@@ -6,7 +6,7 @@ use mathlib.Core.List.{List, [], _∷_}
 use Rattle.wire.specs.Read.{Bytes, Read, ok}
 use Rattle.wire.specs.Output.{put}
 use Rattle.section.specs.declared.read.RowsRead.{RowsRead}
-use Rattle.section.specs.Grammar.{Row}
+use Rattle.grammar.specs.Grammar.{Row}
 use Rattle.section.specs.Table.{rowNumbers, rowCount, toldRows}
 
 -- a table with rows laid into it, the first as row i; a row that does not fit leaves it

@@ -11,8 +11,8 @@ use Rattle.wire.specs.Output.{put}
 use Rattle.schema.specs.Schemas.{Schema, readSchemas}
 use Rattle.section.specs.declared.read.RowsRead.{RowsRead}
 use Rattle.section.specs.declared.read.RowsRead.the-variants as read
-use Rattle.section.specs.Grammar.{Row}
-use Rattle.section.specs.Reader.{section}
+use Rattle.grammar.specs.Grammar.{Row}
+use Rattle.grammar.specs.Reader.{section}
 
 -- the numbers of a row
 abbrev pub rowNumbers : Row → List ℕ

@@ -6,7 +6,7 @@ ghost use Rattle.wire.specs.Integers.{toldInt};
 ghost use Rattle.schema.specs.Table.{schemasIn};
 ghost use Rattle.section.specs.Shapes.{Sound};
 ghost use Rattle.section.specs.Heads.{headAt, headBy, beforeIn, pairedId, toldHead};
-ghost use Rattle.section.specs.Reader.{childToken};
+ghost use Rattle.grammar.specs.Reader.{childToken};
 use crate::children::find_child;
 use crate::children::id_in;
 use wire::error::Error;

@@ -8,8 +8,8 @@ use Rattle.wire.specs.Integers.{toldInt}
 use Rattle.schema.specs.Schemas.{Schema, childNumber}
 use Rattle.schema.specs.Table.{schemasIn}
 use Rattle.schema.specs.Questions.{or0}
-use Rattle.section.specs.Grammar.{other}
-use Rattle.section.specs.Reader.{idAt}
+use Rattle.grammar.specs.Grammar.{other}
+use Rattle.grammar.specs.Reader.{idAt}
 use Rattle.section.specs.Heads.{dataHead}
 use Rattle.section.proofs.HeadLaws.{id-short, id-read, child-short, child-unknown, child-known, number-none, number-some}
 use borrow.Author.Needs.{needs}

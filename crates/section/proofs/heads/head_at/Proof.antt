@@ -9,7 +9,7 @@ use Rattle.wire.specs.Read.{Bytes}
 use Rattle.wire.specs.Integers.{toldInt}
 use Rattle.schema.specs.Schemas.{Schema}
 use Rattle.schema.specs.Table.{schemasIn}
-use Rattle.section.specs.Grammar.{Before}
+use Rattle.grammar.specs.Grammar.{Before}
 use Rattle.section.specs.Heads.{beforeIn}
 use Rattle.section.proofs.HeadLaws.{head-short, head-parent, head-child, head-change, head-delete, head-done, head-unknown, change-refused, change-followed, delete-refused, delete-read, done-end, done-trailing}
 use borrow.Author.Needs.{needs}

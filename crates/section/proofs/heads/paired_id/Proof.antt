@@ -6,7 +6,7 @@ use mathlib.Core.Bool.{true, false}
 use borrow.Author.Tests.{eq-eqb, ne-eqb}
 use Rattle.wire.specs.Read.{ok}
 use Rattle.wire.specs.Integers.{toldInt}
-use Rattle.section.specs.Reader.{follows, idAt}
+use Rattle.grammar.specs.Reader.{follows, idAt}
 use Rattle.section.specs.Heads.{beforeIn}
 use Rattle.section.proofs.HeadLaws.{id-short, id-read, follows-child, follows-nothing, paired-short, paired-found, paired-other}
 use borrow.Author.Needs.{needs}

@@ -9,7 +9,7 @@ use Rattle.wire.specs.declared.error.Error.{Error}
 use Rattle.wire.specs.declared.error.Input.the-variants as input
 use Rattle.wire.specs.declared.error.ErrorKind.the-variants as error
 use Rattle.schema.specs.Table.{schemasIn}
-use Rattle.section.specs.Reader.{section}
+use Rattle.grammar.specs.Reader.{section}
 use Rattle.section.specs.Table.{toldRows}
 use Rattle.section.proofs.Growth.{shaped}
 use Rattle.section.proofs.Laid.{length-laid}

@@ -26,8 +26,8 @@ use Rattle.row.proofs.Found.{Stepped, stayed, moved, step-told, opened-ok}
 use Rattle.row.proofs.Later.{row-end-told}
 use Rattle.row.proofs.UpdateLaws.{length-numbered, update-well, update-end-reached}
 use Rattle.row.proofs.UpdateFound.{update-end-told}
-use Rattle.section.specs.Grammar.{LengthOf, Field, fixed-field, variable-field, wide-field, Fields, no-fields, a-field, Original, original, Update, an-update}
-use Rattle.section.proofs.Maps.{piece-begins, enough, clear-sound, clear-complete, keep, chosen, present-sound, present-complete, carried-sound, carried-complete}
+use Rattle.grammar.specs.Grammar.{LengthOf, Field, fixed-field, variable-field, wide-field, Fields, no-fields, a-field, Original, original, Update, an-update}
+use Rattle.grammar.proofs.Maps.{piece-begins, enough, clear-sound, clear-complete, keep, chosen, present-sound, present-complete, carried-sound, carried-complete}
 
 -- Bytes a to b of s are one of those that F has.
 abbrev pub Has : (Bytes → Type 0) → Bytes → ℕ → ℕ → Type 0

@@ -18,11 +18,11 @@ use Rattle.row.proofs.Shift.{inner-row-looks-up, inner-update-looks-up}
 use Rattle.row.proofs.UpdateLaws.{current-updated, current-forced, current-unchanged, current-chapter, from-row}
 use Rattle.row.proofs.UpdateLater.{examined-later}
 use Rattle.schema.specs.Schemas.{Schema, childNumber}
-use Rattle.section.specs.Grammar.{Original, Update, Element, Before, after, columnsAt, Split, done, parent, child, change, delete, Row, entry, childKind, updateStart, rows}
-use Rattle.section.specs.Reader.{section}
-use Rattle.section.proofs.Rows.{row-complete, update-complete}
-use Rattle.section.proofs.Sections.{token-here}
-use Rattle.section.proofs.Demand.{table-iff-split, after-id}
+use Rattle.grammar.specs.Grammar.{Original, Update, Element, Before, after, columnsAt, Split, done, parent, child, change, delete, Row, entry, childKind, updateStart, rows}
+use Rattle.grammar.specs.Reader.{section}
+use Rattle.grammar.proofs.Rows.{row-complete, update-complete}
+use Rattle.grammar.proofs.Sections.{token-here}
+use Rattle.grammar.proofs.Demand.{table-iff-split, after-id}
 
 -- Original row data stand at `at`: every column looks up in what starts there, and as in the row alone.
 pub record RowAt (columns : List Column) (s : Bytes) (at : ℕ) : Type 0 where

@@ -10,8 +10,8 @@ use Rattle.wire.specs.Read.{Bytes, Read, ok, bad, _>>=_, check, whole}
 use Rattle.row.specs.Rows.{rowEnd}
 use Rattle.row.specs.Updates.{updateEnd}
 use Rattle.schema.specs.Schemas.{Schema, childNumber}
-use Rattle.section.specs.Grammar.{Before, other, after, columnsAt, Row, entry}
-use Rattle.section.specs.Reader.{Token, parentToken, childToken, changeToken, deleteToken, doneToken, unknownToken, tokenOf, knownChild, follows, idAt}
+use Rattle.grammar.specs.Grammar.{Before, other, after, columnsAt, Row, entry}
+use Rattle.grammar.specs.Reader.{Token, parentToken, childToken, changeToken, deleteToken, doneToken, unknownToken, tokenOf, knownChild, follows, idAt}
 
 -- The row of an 87 element directly before, whose kind is not known yet, since an 8A or 8C may follow: its child id and the start of its
 -- original row data.

@@ -12,7 +12,7 @@ use Rattle.wire.specs.Integers.{intAt}
 use Rattle.row.specs.Rows.{rowEnd}
 use Rattle.row.specs.Updates.{updateEnd}
 use Rattle.schema.specs.Schemas.{Schema, childNumber}
-use Rattle.section.specs.Grammar.{Element, parentElement, childElement, changeElement, deleteElement, Before, other, after, columnsAt, Row, rows}
+use Rattle.grammar.specs.Grammar.{Element, parentElement, childElement, changeElement, deleteElement, Before, other, after, columnsAt, Row, rows}
 
 pub data Token : Type 0 where
   parentToken childToken changeToken deleteToken doneToken unknownToken : Token

@@ -18,7 +18,7 @@ use Rattle.column.specs.declared.column.Column.{Column}
 use Rattle.column.specs.Columns.{isChapter, isNullable}
 use Rattle.row.specs.Presence.{one, nullables, Mark, mark, marks, present, chapterPresent, clear}
 use Rattle.row.specs.Updates.{numbered, chapterMarked, forceBroken, carried}
-use Rattle.section.specs.Grammar.{byteBits, bits, Present, no-column, always, set, unset, a-chapter, Carried, no-column-left, unchanged, value, forced-null}
+use Rattle.grammar.specs.Grammar.{byteBits, bits, Present, no-column, always, set, unset, a-chapter, Carried, no-column-left, unchanged, value, forced-null}
 
 -- A map has eight bits a byte.
 bits-length : (map : Bytes) → length (bits map) ≡ 8 * length map

@@ -18,9 +18,9 @@ use Rattle.schema.specs.Schemas as S
 use Rattle.row.specs.Presence.{nullables, presenceBytes, marks, present, chapterPresent, clear}
 use Rattle.row.specs.Rows.{step, walk, opened, walked, rowEnd}
 use Rattle.row.specs.Updates.{numbered, updateBytes, chapterMarked, forceBroken, carried, carriedIn, updateOpened, updateWalked, updateEnd}
-use Rattle.section.specs.Grammar.{Element, parentElement, childElement, changeElement, other, Split, Row, entry, childKind, updateStart, rows}
-use Rattle.section.specs.Reader.{tokenOf, knownChild, element, scan, elements, section}
-use Rattle.section.proofs.Demand.{accepted-iff-split}
+use Rattle.grammar.specs.Grammar.{Element, parentElement, childElement, changeElement, other, Split, Row, entry, childKind, updateStart, rows}
+use Rattle.grammar.specs.Reader.{tokenOf, knownChild, element, scan, elements, section}
+use Rattle.grammar.proofs.Demand.{accepted-iff-split}
 
 -- a schema file, a section, and what reading it answers
 pub record Example : Type 0 where

@@ -14,10 +14,10 @@ use Rattle.column.specs.Fields.{fieldAt}
 use Rattle.row.specs.Rows.{rowEnd}
 use Rattle.row.specs.Updates.{updateEnd}
 use Rattle.schema.specs.Schemas.{Schema}
-use Rattle.section.specs.Grammar.{Field, Original, Update, Element, parentElement, childElement, changeElement, deleteElement, Before, other, Split, done, parent, child, change, delete, Row, rows}
-use Rattle.section.specs.Reader.{elements, section}
-use Rattle.section.proofs.Rows.{foundAt, field-complete, row-complete, update-complete}
-use Rattle.section.proofs.Sections.{scan-sound, scan-complete, token-here}
+use Rattle.grammar.specs.Grammar.{Field, Original, Update, Element, parentElement, childElement, changeElement, deleteElement, Before, other, Split, done, parent, child, change, delete, Row, rows}
+use Rattle.grammar.specs.Reader.{elements, section}
+use Rattle.grammar.proofs.Rows.{foundAt, field-complete, row-complete, update-complete}
+use Rattle.grammar.proofs.Sections.{scan-sound, scan-complete, token-here}
 
 -- The reader answers these elements exactly where the rules split the input into them.
 pub accepted-iff-split : (S : List Schema) (s : Bytes) (es : List Element) → elements S s ≡ ok es ↔ Split S other s es

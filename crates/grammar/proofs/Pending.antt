@@ -9,10 +9,10 @@ use Rattle.wire.specs.Read.{Bytes, Read, ok, bad, _>>=_, check, cut, whole}
 use Rattle.row.specs.Rows.{rowEnd}
 use Rattle.row.specs.Updates.{updateEnd}
 use Rattle.schema.specs.Schemas.{Schema, childNumber}
-use Rattle.section.specs.Grammar.{Element, parentElement, childElement, changeElement, deleteElement, Before, other, after, columnsAt, Row, entry, childKind, updateStart, rows}
-use Rattle.section.specs.Reader.{Token, parentToken, childToken, changeToken, deleteToken, doneToken, unknownToken, tokenOf, knownChild, follows, idAt, element, scan, elements, section}
-use Rattle.section.specs.Pending.{Pending, nothing, child-row, beforeOf, flush, close, turn, rowsFrom}
-use Rattle.section.proofs.Ends.{row-ends, update-ends, end-by-length, id-ends}
+use Rattle.grammar.specs.Grammar.{Element, parentElement, childElement, changeElement, deleteElement, Before, other, after, columnsAt, Row, entry, childKind, updateStart, rows}
+use Rattle.grammar.specs.Reader.{Token, parentToken, childToken, changeToken, deleteToken, doneToken, unknownToken, tokenOf, knownChild, follows, idAt, element, scan, elements, section}
+use Rattle.grammar.specs.Pending.{Pending, nothing, child-row, beforeOf, flush, close, turn, rowsFrom}
+use Rattle.grammar.proofs.Ends.{row-ends, update-ends, end-by-length, id-ends}
 
 -- the rows of elements that start at `at`, with what is pending before them
 abbrev pub enter : Pending → ℕ → List Element → List Row

@@ -17,12 +17,12 @@ use Rattle.column.specs.declared.column.Column.{Column}
 use Rattle.row.specs.Rows.{rowEnd}
 use Rattle.row.specs.Updates.{updateEnd}
 use Rattle.schema.specs.Schemas.{Schema, childNumber}
-use Rattle.section.specs.Grammar.{Element, Before, other, after, columnsAt}
-use Rattle.section.specs.Reader.{Token, parentToken, childToken, changeToken, deleteToken, doneToken, unknownToken, tokenOf, knownChild, follows, idAt, element, scan, elements, section}
-use Rattle.section.proofs.Ends.{row-ends, update-ends}
-use Rattle.section.proofs.Sections.{Says, says, known-ok, follows-after}
-use Rattle.section.proofs.RowErrors.{OfError, no-error, an-error, of-bind, of-check, of-other, of-told, RowErrorAt, short, chapter-bit, force-rule, length-rule, of-row, of-update}
-use Rattle.section.proofs.RowErrors as row
+use Rattle.grammar.specs.Grammar.{Element, Before, other, after, columnsAt}
+use Rattle.grammar.specs.Reader.{Token, parentToken, childToken, changeToken, deleteToken, doneToken, unknownToken, tokenOf, knownChild, follows, idAt, element, scan, elements, section}
+use Rattle.grammar.proofs.Ends.{row-ends, update-ends}
+use Rattle.grammar.proofs.Sections.{Says, says, known-ok, follows-after}
+use Rattle.grammar.proofs.RowErrors.{OfError, no-error, an-error, of-bind, of-check, of-other, of-told, RowErrorAt, short, chapter-bit, force-rule, length-rule, of-row, of-update}
+use Rattle.grammar.proofs.RowErrors as row
 
 -- The errors that there are: code, offset, and what stands there. No error has code 0, by which `scan` says that its fuel ran out.
 pub data Reason (schemas : List Schema) (s : Bytes) : ℕ → ℕ → Type 0 where

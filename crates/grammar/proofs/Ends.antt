@@ -10,7 +10,7 @@ use Rattle.wire.proofs.Pieces.{cut-length, whole-ok}
 use Rattle.column.specs.declared.column.Column.{Column}
 use Rattle.row.specs.Rows.{rowEnd}
 use Rattle.row.specs.Updates.{updateEnd}
-use Rattle.section.proofs.Rows.{row-sound, update-sound}
+use Rattle.grammar.proofs.Rows.{row-sound, update-sound}
 
 module _ (columns : List Column) (s : Bytes) (at e : ℕ) where
   pub row-ends : rowEnd columns s at ≡ ok e → (at ≤ e) × (e ≤ length s)
