@@ -30,11 +30,14 @@ enum adtg_error {
     ADTG_RANGE = 6,          /* a count, type, flags or maximum is out of range; offset: its start */
     ADTG_LIMIT = 7,          /* depth 5, or column 257 of a file; offset: the count */
     ADTG_REPEATED_ID = 8,    /* a child id is repeated; offset: its start */
+    ADTG_UNKNOWN_TOKEN = 9,  /* a token that no element has; offset: the token */
+    ADTG_UNKNOWN_ID = 10,    /* a child row with an id that no schema has; offset: its token */
+    ADTG_UNPAIRED = 11,      /* a change or deletion without its child row directly before; offset: its token */
     ADTG_CHAPTER_BIT = 12,   /* the bit of a chapter is set in a map; offset: the byte of the first such bit */
     ADTG_FORCE_NULL = 13,    /* null is forced without update or in no nullable column; offset: the byte of the bit */
     ADTG_LENGTH = 14,        /* a length is over the maximum, or odd in wide text; offset: its prefix */
     ADTG_TRAILING = 15,      /* bytes after the end; offset: the first of them */
-    ADTG_CAPACITY = 16,      /* the output or table is too small; offset: the bytes or numbers that the piece needs */
+    ADTG_CAPACITY = 16,      /* the output or table is too small; offset: the bytes, numbers or rows that are needed */
     ADTG_PLAN_MISMATCH = 17, /* the plan is not that of the schema; offset: 0 */
     ADTG_MISSING = 18,       /* no such schema, column, child id, place or entry; offset: 0 */
     ADTG_TOO_LARGE = 19,     /* an input has more than 16,777,216 bytes; offset: 0 */
@@ -49,6 +52,7 @@ enum adtg_input {
     ADTG_ROW = 3,            /* the original row */
     ADTG_UPDATE = 4,         /* the update data */
     ADTG_COLUMN = 5,
+    ADTG_SECTION = 6,        /* the row section */
     ADTG_TABLE = 7,
     ADTG_OUTPUT = 8,
     ADTG_PLAN = 9,
@@ -143,6 +147,22 @@ uint32_t adtg_write_schema(const uint32_t *numbers, size_t count,
  * out: how many numbers. */
 uint32_t adtg_schema_numbers(const uint8_t *file, size_t length,
                              uint32_t *table, size_t capacity, uint64_t out[16]);
+
+/* Kinds of rows in the table of a section. */
+enum adtg_row {
+    ADTG_PARENT = 1,
+    ADTG_CHILD = 2,
+    ADTG_CHILD_CHANGED = 3,
+    ADTG_CHILD_DELETED = 4
+};
+
+/* Reads a whole row section into a table, four numbers a row: its kind, its child id (0 for a parent), where its original data
+ * start in the section, and where its update data start (0 but for a changed row). Numbers behind the last row stay as they were; an
+ * error leaves the whole table.
+ * out: rows. */
+uint32_t adtg_read_section(const uint8_t *file, size_t file_length,
+                           const uint8_t *section, size_t section_length,
+                           uint32_t *table, size_t table_length, uint64_t out[16]);
 
 /* The calls below take a schema file and the number of the schema that says the columns of the row. They check all sizes,
  * then the file, then the schema number, then the rest.

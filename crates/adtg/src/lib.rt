@@ -1,4 +1,4 @@
-// The calls of the library that take a schema file together with rows.
+// The calls of the library that take a schema file together with rows or a row section.
 // Each checks all that it is given, in the common order of checks: all sizes, the schema file, the schema number, the rest.
 ghost use mathlib.Core.Path.{_≡_};
 ghost use Rattle.wire.specs.Read.{about, sized, sizedBy, toldMatch};
@@ -17,6 +17,7 @@ use wire::integer::IntRead;
 
 pub mod plans;
 pub mod rows;
+pub mod sections;
 pub mod updates;
 pub mod writers;
 

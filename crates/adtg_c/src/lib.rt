@@ -7,3 +7,4 @@ pub mod head;
 pub mod plans;
 pub mod rows;
 pub mod schemas;
+pub mod sections;
