@@ -1,19 +1,20 @@
 //! `compare vectors FOLDER` and `compare random`: holds the reading, the vectors and the
-//! archive against each other. `compare bench` measures look-ups of both.
+//! archive against each other. `compare bench` measures look-ups and sections of both.
 
 use std::env;
 use std::path::Path;
 use std::process::ExitCode;
 use std::time::Duration;
 
-use compare::bench;
+use compare::bench::{look_ups, sections};
 use compare::trials::{self, Limit};
 use compare::vectors;
 use compare::Totals;
 
 const USAGE: &str = "usage: compare vectors FOLDER
        compare random [--seed S] [--seconds N | --cases N]
-       compare bench [--count [fixed|nullable|eight|variable COLUMN]]";
+       compare bench [--count [fixed|nullable|eight|variable COLUMN]]
+       compare bench sections [--count [short|wide|nested]]";
 
 const DEFAULT_SEED: u64 = 1;
 const DEFAULT_CASES: u64 = 200_000;
@@ -41,13 +42,16 @@ fn run(words: &[&str]) -> Result<Totals, String> {
             let (seed, limit) = random_options(options)?;
             Ok(trials::run(seed, limit))
         }
-        ["bench"] => bench::run(),
-        ["bench", "--count"] => bench::count(None),
+        ["bench"] => look_ups::run(),
+        ["bench", "sections"] => sections::run(),
+        ["bench", "sections", "--count"] => sections::count(None),
+        ["bench", "sections", "--count", rows] => sections::count(Some(rows)),
+        ["bench", "--count"] => look_ups::count(None),
         ["bench", "--count", table, column] => {
             let column = column
                 .parse()
                 .map_err(|_| format!("not a column: {column}"))?;
-            bench::count(Some((table, column)))
+            look_ups::count(Some((table, column)))
         }
         _ => Err(USAGE.to_string()),
     }
