@@ -5,6 +5,7 @@ use crate::random::Random;
 use crate::reading::column::{Column, Kind, BYTES, CHAPTER, FIXED, TEXT, WIDE_TEXT};
 use crate::reading::encode::{write_original, write_update, Entry};
 use crate::reading::schema::{write_schema, SchemaFile, MAX_COLUMNS, MAX_FILE_COLUMNS};
+use crate::reading::section::{CHILD, CHILD_CHANGE, CHILD_DELETE, END, PARENT};
 use crate::reading::{Error, Input};
 
 const MAX_DEPTH: usize = 4;
@@ -325,7 +326,7 @@ impl Section {
     ) {
         let columns = file.columns_at(number);
         let id = file.id_at(number);
-        self.bytes.push(if id.is_some() { 0x87 } else { 0x07 });
+        self.bytes.push(if id.is_some() { CHILD } else { PARENT });
         self.bytes
             .extend(id.map(u32::to_le_bytes).into_iter().flatten());
         let start = self.bytes.len() as u32;
@@ -339,7 +340,7 @@ impl Section {
         match random.below(3) {
             0 => self.table.extend([2, id, start, 0]),
             1 => {
-                self.bytes.push(0x8A);
+                self.bytes.push(CHILD_CHANGE);
                 self.bytes.extend(id.to_le_bytes());
                 let update = self.bytes.len() as u32;
                 self.table.extend([3, id, start, update]);
@@ -348,7 +349,7 @@ impl Section {
                     .extend(update_row(schema, number, &entries, &values));
             }
             _ => {
-                self.bytes.push(0x8C);
+                self.bytes.push(CHILD_DELETE);
                 self.bytes.extend(id.to_le_bytes());
                 self.table.extend([4, id, start, 0]);
             }
@@ -357,7 +358,7 @@ impl Section {
 
     /// The whole section, with its end token, and its table.
     pub fn end(mut self) -> (Vec<u8>, Vec<u32>) {
-        self.bytes.push(0x0F);
+        self.bytes.push(END);
         (self.bytes, self.table)
     }
 }

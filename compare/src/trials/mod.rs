@@ -9,6 +9,7 @@ mod row_data;
 mod row_writers;
 mod rows;
 mod schema;
+mod sections;
 
 use std::time::{Duration, Instant};
 
@@ -34,8 +35,8 @@ const BETWEEN_LOOKS: u64 = 64;
 /// Some cases of one call: makes the inputs, runs both sides, reports to the run.
 type Trial = fn(&mut Random, &mut Run);
 
-/// Trials of one case each.
-const SHORT: [Trial; 14] = [
+/// Trials of one case each, or few.
+const SHORT: [Trial; 15] = [
     header::read_case,
     header::write_case,
     header::write_short_case,
@@ -50,6 +51,7 @@ const SHORT: [Trial; 14] = [
     row_writers::original_case,
     row_writers::update_case,
     plans::check_case,
+    sections::read_case,
 ];
 
 /// Trials that ask one row for all its columns, once in `BETWEEN_ROWS`.
@@ -132,6 +134,7 @@ fn run_oversized(run: &mut Run) {
     plans::oversized(&bytes, run);
     forged::oversized(&bytes, run);
     row_writers::oversized(&bytes, run);
+    sections::oversized(&bytes, run);
 }
 
 impl Limit {
