@@ -206,7 +206,12 @@ impl Maker {
         loop {
             let any = random.between(0, MAX_ID);
             let small = random.below(300);
-            let id = random.pick(&[small, small, small, any, 0, MAX_ID]) as u32;
+            // One whose last byte another id has too.
+            let alike = match self.ids.is_empty() {
+                true => any,
+                false => (any & !0xFF) | random.pick(&self.ids) as usize & 0xFF,
+            };
+            let id = random.pick(&[small, small, small, alike, any, 0, MAX_ID]) as u32;
             if !self.ids.contains(&id) {
                 self.ids.push(id);
                 return id;

@@ -4,14 +4,14 @@ use super::row_data::{Form, Subject};
 use super::rows::REFUSED;
 use super::{complaints, damage, filled_complaints, schema, Call, Run};
 use crate::archive;
-use crate::generate;
+use crate::generate::{self, Shape};
 use crate::random::Random;
 use crate::reading::column::{BYTES, CHAPTER, TEXT};
-use crate::reading::schema::SchemaFile;
+use crate::reading::schema::{SchemaFile, MAX_FILE_COLUMNS};
 use crate::reading::section::{
     read_section, CHILD, CHILD_CHANGE, CHILD_DELETE, END, PARENT, ROW_NUMBERS,
 };
-use crate::reading::{Error, ErrorCode, MAX_INPUT};
+use crate::reading::{Error, ErrorCode, Input, MAX_INPUT};
 use crate::text::{shown, shown_numbers};
 
 static READ: Call = Call {
@@ -45,7 +45,8 @@ const SECTIONS: usize = 4;
 
 /// Sections under one file, each with a table, and at times with another file.
 pub(super) fn read_case(random: &mut Random, run: &mut Run) {
-    let (sound, schemas) = generate::schema_file(random);
+    let sound = sound_file(random);
+    let schemas = SchemaFile::read(&sound, Input::Schema).expect("the file is sound");
     for _ in 0..SECTIONS {
         let section = Maker::new(&sound, &schemas).section(random);
         let mut file = sound.clone();
@@ -59,6 +60,21 @@ pub(super) fn read_case(random: &mut Random, run: &mut Run) {
         let before: Vec<u32> = (0..space).map(|_| random.bits() as u32).collect();
         read(&file, &section, &before, run);
     }
+}
+
+/// A file that keeps the rules, at times one with many schemas.
+fn sound_file(random: &mut Random) -> Vec<u8> {
+    if !random.one_in(8) {
+        return generate::schema_file(random).0;
+    }
+    let schemas = random.between(13, 60);
+    let shape = Shape {
+        schemas,
+        columns: random.between(2 * schemas, MAX_FILE_COLUMNS),
+        depth: random.between(2, 4),
+        repeats_ids: false,
+    };
+    generate::groups(&generate::shaped_numbers(random, shape))
 }
 
 /// Inputs at the size limit and over it, in both places, and sections that fill the limit.
