@@ -40,8 +40,8 @@ enum call {
 };
 
 /* What the answers were, for the fuzzer. */
-#define COUNTERS 16384u
-__attribute__((section("__libfuzzer_extra_counters"))) static uint8_t counters[COUNTERS];
+#define COUNTERS 32768u
+__attribute__((used, section("__libfuzzer_extra_counters"))) static uint8_t counters[COUNTERS];
 
 /* A run of bytes that is lent. */
 struct bytes {
@@ -157,7 +157,7 @@ static void count(enum call call, uint32_t code, uint64_t first, uint64_t second
     mixed = mixed * 31 + code;
     mixed = mixed * 127 + bucket(first);
     mixed = mixed * 127 + bucket(second);
-    counters[mixed * 2654435761u >> 18] = 1;
+    counters[mixed * 2654435761u >> 17] = 1;
 }
 
 /* What `out` holds before a call, so that numbers left alone are noticed. */
