@@ -192,6 +192,15 @@ extern "C" {
         output_len: usize,
         out: *mut Out,
     ) -> u32;
+    fn adtg_read_section(
+        file: *const u8,
+        file_len: usize,
+        section: *const u8,
+        section_len: usize,
+        table: *mut u32,
+        table_len: usize,
+        out: *mut Out,
+    ) -> u32;
     fn adtg_make_plan(file: *const u8, file_len: usize, number: usize) -> PlanAnswer;
     fn adtg_check_plan(
         plan: PlanNumbers,
@@ -584,6 +593,25 @@ pub fn write_update(
             place,
             output.as_mut_ptr(),
             output.len(),
+            &mut out,
+        )
+    };
+    decode(code, out, 1, one_size)
+}
+
+/// The archive's reading of a whole row section: how many rows stand at the start of `table`,
+/// four numbers each.
+pub fn read_section(file: &[u8], section: &[u8], table: &mut [u32]) -> Reply<usize> {
+    let mut out = UNTOUCHED;
+    // SAFETY: as in `write_options`, for all slices.
+    let code = unsafe {
+        adtg_read_section(
+            file.as_ptr(),
+            file.len(),
+            section.as_ptr(),
+            section.len(),
+            table.as_mut_ptr(),
+            table.len(),
             &mut out,
         )
     };

@@ -5,6 +5,7 @@ use crate::random::Random;
 use crate::reading::column::{Column, Kind, BYTES, CHAPTER, FIXED, TEXT, WIDE_TEXT};
 use crate::reading::encode::{write_original, write_update, Entry};
 use crate::reading::schema::{write_schema, SchemaFile, MAX_COLUMNS, MAX_FILE_COLUMNS};
+use crate::reading::section::{CHILD, CHILD_CHANGE, CHILD_DELETE, END, PARENT};
 use crate::reading::{Error, Input};
 
 const MAX_DEPTH: usize = 4;
@@ -205,7 +206,12 @@ impl Maker {
         loop {
             let any = random.between(0, MAX_ID);
             let small = random.below(300);
-            let id = random.pick(&[small, small, small, any, 0, MAX_ID]) as u32;
+            // One whose last byte another id has too.
+            let alike = match self.ids.is_empty() {
+                true => any,
+                false => (any & !0xFF) | random.pick(&self.ids) as usize & 0xFF,
+            };
+            let id = random.pick(&[small, small, small, alike, any, 0, MAX_ID]) as u32;
             if !self.ids.contains(&id) {
                 self.ids.push(id);
                 return id;
@@ -294,37 +300,70 @@ fn written(writer: impl Fn(&mut [u8]) -> Result<usize, Error>) -> Vec<u8> {
 
 /// A section under the file, and the numbers that its table must hold.
 pub fn section(random: &mut Random, schema: &[u8], file: &SchemaFile) -> (Vec<u8>, Vec<u32>) {
-    let mut bytes = Vec::new();
-    let mut table = Vec::new();
+    let mut section = Section::default();
     for _ in 0..random.below(6) {
         let number = random.below(file.schema_count());
+        section.add_row(random, schema, file, number);
+    }
+    section.end()
+}
+
+/// A section in the making, and the numbers that its table must hold so far.
+#[derive(Default)]
+pub struct Section {
+    bytes: Vec<u8>,
+    table: Vec<u32>,
+}
+
+impl Section {
+    /// How many bytes it has so far.
+    pub fn size(&self) -> usize {
+        self.bytes.len()
+    }
+
+    /// Adds a row under the schema of this number. A child is unchanged, changed or deleted.
+    pub fn add_row(
+        &mut self,
+        random: &mut Random,
+        schema: &[u8],
+        file: &SchemaFile,
+        number: usize,
+    ) {
         let columns = file.columns_at(number);
         let id = file.id_at(number);
-        bytes.push(if id.is_some() { 0x87 } else { 0x07 });
-        bytes.extend(id.map(u32::to_le_bytes).into_iter().flatten());
-        let start = bytes.len() as u32;
+        self.bytes.push(if id.is_some() { CHILD } else { PARENT });
+        self.bytes
+            .extend(id.map(u32::to_le_bytes).into_iter().flatten());
+        let start = self.bytes.len() as u32;
         let (entries, values) = original_entries(random, columns);
-        bytes.extend(original_row(schema, number, &entries, &values));
+        self.bytes
+            .extend(original_row(schema, number, &entries, &values));
         let Some(id) = id else {
-            table.extend([1, 0, start, 0]);
-            continue;
+            self.table.extend([1, 0, start, 0]);
+            return;
         };
         match random.below(3) {
-            0 => table.extend([2, id, start, 0]),
+            0 => self.table.extend([2, id, start, 0]),
             1 => {
-                bytes.push(0x8A);
-                bytes.extend(id.to_le_bytes());
-                table.extend([3, id, start, bytes.len() as u32]);
+                self.bytes.push(CHILD_CHANGE);
+                self.bytes.extend(id.to_le_bytes());
+                let update = self.bytes.len() as u32;
+                self.table.extend([3, id, start, update]);
                 let (entries, values) = update_entries(random, columns);
-                bytes.extend(update_row(schema, number, &entries, &values));
+                self.bytes
+                    .extend(update_row(schema, number, &entries, &values));
             }
             _ => {
-                bytes.push(0x8C);
-                bytes.extend(id.to_le_bytes());
-                table.extend([4, id, start, 0]);
+                self.bytes.push(CHILD_DELETE);
+                self.bytes.extend(id.to_le_bytes());
+                self.table.extend([4, id, start, 0]);
             }
         }
     }
-    bytes.push(0x0F);
-    (bytes, table)
+
+    /// The whole section, with its end token, and its table.
+    pub fn end(mut self) -> (Vec<u8>, Vec<u32>) {
+        self.bytes.push(END);
+        (self.bytes, self.table)
+    }
 }

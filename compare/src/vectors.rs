@@ -1,4 +1,4 @@
-//! Runs vector files against the reading and, where it has the call, the archive.
+//! Runs vector files against the reading and the archive.
 
 use std::fs;
 use std::path::{Path, PathBuf};
@@ -17,11 +17,10 @@ use crate::reading::Error;
 use crate::text::{agree, hex, parse_hex, Text};
 use crate::Totals;
 
-/// What both sides say about one line; `None` where the archive lacks the call or cannot be
-/// given the inputs.
+/// What both sides say about one line.
 struct Answers {
     reading: String,
-    archive: Option<String>,
+    archive: String,
 }
 
 /// Runs the inputs of one line, or says why they cannot be taken.
@@ -66,38 +65,30 @@ fn run_file(file: &Path) -> Result<Totals, String> {
     let content = fs::read_to_string(file)
         .map_err(|error| format!("cannot read {}: {error}", file.display()))?;
     let mut totals = Totals::default();
-    let mut archive_cases = 0;
     for (index, line) in content.lines().enumerate() {
         totals.cases += 1;
-        match run_line(call, line) {
-            Ok(by_archive) => archive_cases += u64::from(by_archive),
-            Err(difference) => {
-                totals.differ += 1;
-                println!("{name} line {}: {line}\n{difference}", index + 1);
-            }
+        if let Err(difference) = run_line(call, line) {
+            totals.differ += 1;
+            println!("{name} line {}: {line}\n{difference}", index + 1);
         }
     }
     let Totals { cases, differ } = totals;
-    println!("{name}: {cases} cases, {differ} differ ({archive_cases} agree in the archive)");
+    println!("{name}: {cases} cases, {differ} differ");
     Ok(totals)
 }
 
-/// Runs one line: whether the archive took part, or what differs.
-fn run_line(call: Call, line: &str) -> Result<bool, String> {
+/// Runs one line; the error says what differs.
+fn run_line(call: Call, line: &str) -> Result<(), String> {
     let (inputs, expected) = line
         .split_once(" -> ")
         .ok_or("  the line has no answer".to_string())?;
     let inputs: Vec<&str> = inputs.split(' ').collect();
-    let answers = call(&inputs).map_err(|error| format!("  the line cannot be taken: {error}"))?;
-    let archive_agrees = answers.archive.iter().all(|answer| answer == expected);
-    if answers.reading == expected && archive_agrees {
-        return Ok(answers.archive.is_some());
+    let Answers { reading, archive } =
+        call(&inputs).map_err(|error| format!("  the line cannot be taken: {error}"))?;
+    if reading == expected && archive == expected {
+        return Ok(());
     }
-    let archive = answers.archive.as_deref().unwrap_or("(no such call)");
-    Err(format!(
-        "  reading: {}\n  archive: {archive}",
-        answers.reading
-    ))
+    Err(format!("  reading: {reading}\n  archive: {archive}"))
 }
 
 /// The call that a file of this name is about.
@@ -124,12 +115,8 @@ fn header_line(inputs: &[&str]) -> Result<Answers, String> {
     let bytes = parse_hex(bytes)?;
     Ok(Answers {
         reading: read_header(&bytes).text(),
-        archive: archive_header(&bytes),
+        archive: archive::read_header(&bytes).text(),
     })
-}
-
-fn archive_header(bytes: &[u8]) -> Option<String> {
-    Some(archive::read_header(bytes).text())
 }
 
 fn options_line(inputs: &[&str]) -> Result<Answers, String> {
@@ -137,12 +124,8 @@ fn options_line(inputs: &[&str]) -> Result<Answers, String> {
     let bytes = parse_hex(bytes)?;
     Ok(Answers {
         reading: read_options(&bytes).text(),
-        archive: archive_options(&bytes),
+        archive: archive::read_options(&bytes).text(),
     })
-}
-
-fn archive_options(bytes: &[u8]) -> Option<String> {
-    Some(archive::read_options(bytes).text())
 }
 
 fn read_schema_line(inputs: &[&str]) -> Result<Answers, String> {
@@ -150,12 +133,8 @@ fn read_schema_line(inputs: &[&str]) -> Result<Answers, String> {
     let bytes = parse_hex(bytes)?;
     Ok(Answers {
         reading: read_schema(&bytes).text(),
-        archive: archive_read_schema(&bytes),
+        archive: archive::read_schema(&bytes).text(),
     })
-}
-
-fn archive_read_schema(bytes: &[u8]) -> Option<String> {
-    Some(archive::read_schema(bytes).text())
 }
 
 fn write_schema_line(inputs: &[&str]) -> Result<Answers, String> {
@@ -171,10 +150,10 @@ fn write_schema_line(inputs: &[&str]) -> Result<Answers, String> {
     })
 }
 
-fn archive_write_schema(numbers: &[u32], before: &[u8]) -> Option<String> {
+fn archive_write_schema(numbers: &[u32], before: &[u8]) -> String {
     let mut output = before.to_vec();
     let written = archive::write_schema(numbers, &mut output);
-    Some(written_text(&written, before, &output, 0))
+    written_text(&written, before, &output, 0)
 }
 
 fn look_up_line(inputs: &[&str]) -> Result<Answers, String> {
@@ -205,7 +184,7 @@ fn walk_and_plan(schema: &[u8], number: usize, row: &[u8], column: usize) -> Str
 }
 
 /// The same of the archive. A schema that has no plan must be refused by the walk too.
-fn archive_look_up(schema: &[u8], number: usize, row: &[u8], column: usize) -> Option<String> {
+fn archive_look_up(schema: &[u8], number: usize, row: &[u8], column: usize) -> String {
     let walk = archive::look_up(schema, number, row, column);
     let (planned, opened) = match archive::make_plan(schema, number) {
         Ok(plan) => {
@@ -219,9 +198,9 @@ fn archive_look_up(schema: &[u8], number: usize, row: &[u8], column: usize) -> O
     };
     if planned != walk || opened != walk {
         let answers = [walk, planned, opened];
-        return Some(answers.map(|answer| answer.text()).join(", "));
+        return answers.map(|answer| answer.text()).join(", ");
     }
-    Some(walk.text())
+    walk.text()
 }
 
 fn field_count_line(inputs: &[&str]) -> Result<Answers, String> {
@@ -230,12 +209,8 @@ fn field_count_line(inputs: &[&str]) -> Result<Answers, String> {
     let number = parse_number(number)?;
     Ok(Answers {
         reading: field_count(&schema, number, &row).text(),
-        archive: archive_field_count(&schema, number, &row),
+        archive: archive::field_count(&schema, number, &row).text(),
     })
-}
-
-fn archive_field_count(schema: &[u8], number: usize, row: &[u8]) -> Option<String> {
-    Some(archive::field_count(schema, number, row).text())
 }
 
 fn current_line(inputs: &[&str]) -> Result<Answers, String> {
@@ -244,18 +219,8 @@ fn current_line(inputs: &[&str]) -> Result<Answers, String> {
     let (number, column) = (parse_number(number)?, parse_number(column)?);
     Ok(Answers {
         reading: current(&schema, number, &row, &update, column).text(),
-        archive: archive_current(&schema, number, &row, &update, column),
+        archive: archive::current(&schema, number, &row, &update, column).text(),
     })
-}
-
-fn archive_current(
-    schema: &[u8],
-    number: usize,
-    row: &[u8],
-    update: &[u8],
-    column: usize,
-) -> Option<String> {
-    Some(archive::current(schema, number, row, update, column).text())
 }
 
 fn make_plan_line(inputs: &[&str]) -> Result<Answers, String> {
@@ -268,14 +233,14 @@ fn make_plan_line(inputs: &[&str]) -> Result<Answers, String> {
 }
 
 /// The archive's plan. Says so if numbers that the text leaves out are not the reading's.
-fn archive_make_plan(schema: &[u8], number: usize) -> Option<String> {
+fn archive_make_plan(schema: &[u8], number: usize) -> String {
     let wanted = make_plan(schema, number).map(|plan| plan.numbers());
     let made = archive::make_plan(schema, number);
     let mut text = made.text();
     if !agree(&wanted, &made) {
         text += " with other numbers";
     }
-    Some(text)
+    text
 }
 
 fn fixed_place_line(inputs: &[&str]) -> Result<Answers, String> {
@@ -289,17 +254,17 @@ fn fixed_place_line(inputs: &[&str]) -> Result<Answers, String> {
     })
 }
 
-fn archive_fixed_place(schema: &[u8], number: usize, column: usize) -> Option<String> {
+fn archive_fixed_place(schema: &[u8], number: usize, column: usize) -> String {
     let place =
         archive::make_plan(schema, number).and_then(|plan| archive::fixed_place(&plan, column));
-    Some(place.text())
+    place.text()
 }
 
 fn write_original_line(inputs: &[&str]) -> Result<Answers, String> {
     let row = RowToWrite::parse(inputs)?;
     Ok(Answers {
         reading: row.written_by(write_original),
-        archive: row.written_by_archive(archive::write_original),
+        archive: row.written_by_archive(archive::write_original)?,
     })
 }
 
@@ -307,14 +272,14 @@ fn write_update_line(inputs: &[&str]) -> Result<Answers, String> {
     let row = RowToWrite::parse(inputs)?;
     Ok(Answers {
         reading: row.written_by(write_update),
-        archive: row.written_by_archive(archive::write_update),
+        archive: row.written_by_archive(archive::write_update)?,
     })
 }
 
 fn section_line(inputs: &[&str]) -> Result<Answers, String> {
     let [schema, section, numbers] = take(inputs)?;
     let (schema, section) = (parse_hex(schema)?, parse_hex(section)?);
-    let before = vec![0xA5A5_A5A5; parse_number(numbers)?];
+    let before: Vec<u32> = (0..parse_number(numbers)?).map(|at| !at).collect();
     let mut table = before.clone();
     let rows = read_section(&schema, &section, &mut table);
     Ok(Answers {
@@ -323,8 +288,10 @@ fn section_line(inputs: &[&str]) -> Result<Answers, String> {
     })
 }
 
-fn archive_section(_schema: &[u8], _section: &[u8], _before: &[u32]) -> Option<String> {
-    None
+fn archive_section(schema: &[u8], section: &[u8], before: &[u32]) -> String {
+    let mut table = before.to_vec();
+    let rows = archive::read_section(schema, section, &mut table);
+    rows_text(&rows, before, &table)
 }
 
 /// The inputs of a row writer.
@@ -371,8 +338,8 @@ impl RowToWrite {
     }
 
     /// What a writer of the archive says and does, if it can be given the entries.
-    fn written_by_archive(&self, writer: ArchiveRowWriter) -> Option<String> {
-        let numbers = entry_numbers(&self.entries)?;
+    fn written_by_archive(&self, writer: ArchiveRowWriter) -> Result<String, String> {
+        let numbers = entry_numbers(&self.entries).ok_or("an entry is out of reach")?;
         let mut output = self.before.clone();
         let written = writer(
             &self.schema,
@@ -382,7 +349,7 @@ impl RowToWrite {
             self.place,
             &mut output,
         );
-        Some(written_text(&written, &self.before, &output, self.place))
+        Ok(written_text(&written, &self.before, &output, self.place))
     }
 }
 
@@ -472,18 +439,14 @@ mod tests {
     use super::*;
 
     fn echo(inputs: &[&str]) -> Result<Answers, String> {
-        let [reading, archive] = take(inputs)?;
-        Ok(Answers {
-            reading: reading.to_string(),
-            archive: (archive != "none").then(|| archive.to_string()),
-        })
+        let [reading, archive] = take(inputs)?.map(str::to_string);
+        Ok(Answers { reading, archive })
     }
 
     #[test]
     fn a_line_differs_if_either_side_does() {
-        assert_eq!(run_line(echo, "yes yes -> yes"), Ok(true));
-        assert_eq!(run_line(echo, "yes none -> yes"), Ok(false));
-        for wrong in ["no yes -> yes", "yes no -> yes", "no none -> yes"] {
+        assert_eq!(run_line(echo, "yes yes -> yes"), Ok(()));
+        for wrong in ["no yes -> yes", "yes no -> yes", "no no -> yes"] {
             assert!(run_line(echo, wrong).is_err(), "{wrong}");
         }
     }

@@ -1,12 +1,13 @@
 //! The size limit comes before everything else, and names the first input that is over it.
 
+use compare::archive::{self, Fault};
 use compare::reading::encode::{write_original, write_update};
 use compare::reading::plan::make_plan;
 use compare::reading::row::{field_count, look_up, row_end, Answer};
 use compare::reading::schema::{
     read_schema, schema_column, schema_columns, schema_numbers, schema_of_child,
 };
-use compare::reading::section::read_section;
+use compare::reading::section::{read_section, END, PARENT};
 use compare::reading::update::{current, look_update, update_end};
 use compare::reading::{Error, ErrorCode, Input, MAX_INPUT};
 
@@ -51,6 +52,40 @@ fn an_input_over_the_limit_is_named() {
     let plan = make_plan(&SCHEMA, 0).unwrap();
     assert_eq!(plan.look_up(&large, 9), over(Input::Row));
     assert_eq!(plan.open(&large).map(|_| ()), over(Input::Row));
+}
+
+#[test]
+fn sections_and_their_files_are_measured_before_they_are_read() {
+    let large = vec![0; MAX_INPUT + 1];
+    let full = &large[..MAX_INPUT];
+    for (schema, section, input) in [
+        (&large[..], &large[..], Input::Schema),
+        (&large, full, Input::Schema),
+        (&large, &[], Input::Schema),
+        (full, &large, Input::Section),
+        (&BAD, &large, Input::Section),
+        (&SCHEMA, &large, Input::Section),
+    ] {
+        let error = Error::new(ErrorCode::Oversize, 0, input);
+        let mut table = [9; 5];
+        assert_eq!(read_section(schema, section, &mut table), Err(error));
+        let of_archive = archive::read_section(schema, section, &mut table);
+        assert_eq!(of_archive, Err(Fault::Error(error)));
+        assert_eq!(table, [9; 5]);
+    }
+}
+
+#[test]
+fn a_section_at_the_limit_is_read() {
+    // A chapter that is not nullable: rows have no bytes.
+    let schema = [0x01, 0x88, 0x01, 0x00, 0x07, 0x01, 0x11, 0x00];
+    let mut section = vec![PARENT; MAX_INPUT];
+    section[MAX_INPUT - 1] = END;
+    let rows = MAX_INPUT - 1;
+    let error = Error::new(ErrorCode::Capacity, rows, Input::Table);
+    assert_eq!(read_section(&schema, &section, &mut [9; 7]), Err(error));
+    let of_archive = archive::read_section(&schema, &section, &mut [9; 7]);
+    assert_eq!(of_archive, Err(Fault::Error(error)));
 }
 
 #[test]

@@ -8,11 +8,11 @@ use super::update::{update_end_in, UpdateMaps};
 use super::{check_size, Error, ErrorCode, Input};
 
 /// Tokens of the elements.
-const PARENT: u8 = 0x07;
-const CHILD: u8 = 0x87;
-const CHILD_CHANGE: u8 = 0x8A;
-const CHILD_DELETE: u8 = 0x8C;
-const END: u8 = 0x0F;
+pub const PARENT: u8 = 0x07;
+pub const CHILD: u8 = 0x87;
+pub const CHILD_CHANGE: u8 = 0x8A;
+pub const CHILD_DELETE: u8 = 0x8C;
+pub const END: u8 = 0x0F;
 
 const ID_SIZE: usize = 4;
 

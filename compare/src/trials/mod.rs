@@ -9,7 +9,9 @@ mod row_data;
 mod row_writers;
 mod rows;
 mod schema;
+mod sections;
 
+use std::thread;
 use std::time::{Duration, Instant};
 
 use crate::archive::Reply;
@@ -34,8 +36,8 @@ const BETWEEN_LOOKS: u64 = 64;
 /// Some cases of one call: makes the inputs, runs both sides, reports to the run.
 type Trial = fn(&mut Random, &mut Run);
 
-/// Trials of one case each.
-const SHORT: [Trial; 14] = [
+/// Trials of one case each, or few.
+const SHORT: [Trial; 15] = [
     header::read_case,
     header::write_case,
     header::write_short_case,
@@ -50,6 +52,7 @@ const SHORT: [Trial; 14] = [
     row_writers::original_case,
     row_writers::update_case,
     plans::check_case,
+    sections::read_case,
 ];
 
 /// Trials that ask one row for all its columns, once in `BETWEEN_ROWS`.
@@ -95,21 +98,32 @@ pub(crate) struct Run {
 
 /// Compares reading and archive on inputs that the seed determines.
 pub fn run(seed: u64, limit: Limit) -> Totals {
-    let started = Instant::now();
-    let mut random = Random::new(seed);
     let mut run = Run::default();
     run_oversized(&mut run);
-    let mut turn = 0;
-    while !limit.reached(turn, run.totals.cases, started) {
-        let trial = any_trial(&mut random);
-        trial(&mut random, &mut run);
-        turn += 1;
-    }
+    run.go_on(seed, limit);
     println!("seed {seed}");
-    for tally in &run.tallies {
-        println!("{}", tally.text());
-    }
-    run.totals
+    run.report()
+}
+
+/// The same in several threads at a time. The first has this seed, each other one the next.
+pub fn soak(seed: u64, time: Duration, threads: usize) -> Totals {
+    let mut all = Run::default();
+    run_oversized(&mut all);
+    let in_thread = |number: usize| {
+        let mut run = Run::default();
+        run.go_on(seed.wrapping_add(number as u64), Limit::Time(time));
+        run
+    };
+    thread::scope(|scope| {
+        let runs: Vec<_> = (0..threads)
+            .map(|number| scope.spawn(move || in_thread(number)))
+            .collect();
+        for run in runs {
+            all.add(run.join().expect("the trials end"));
+        }
+    });
+    println!("seed {seed}, {threads} threads");
+    all.report()
 }
 
 fn any_trial(random: &mut Random) -> Trial {
@@ -132,6 +146,7 @@ fn run_oversized(run: &mut Run) {
     plans::oversized(&bytes, run);
     forged::oversized(&bytes, run);
     row_writers::oversized(&bytes, run);
+    sections::oversized(&bytes, run);
 }
 
 impl Limit {
@@ -146,6 +161,35 @@ impl Limit {
 }
 
 impl Run {
+    /// Makes trials up to the limit, on inputs that the seed determines.
+    fn go_on(&mut self, seed: u64, limit: Limit) {
+        let started = Instant::now();
+        let mut random = Random::new(seed);
+        let mut turn = 0;
+        while !limit.reached(turn, self.totals.cases, started) {
+            let trial = any_trial(&mut random);
+            trial(&mut random, self);
+            turn += 1;
+        }
+    }
+
+    /// Adds the counts of another run.
+    fn add(&mut self, other: Run) {
+        self.totals.cases += other.totals.cases;
+        self.totals.differ += other.totals.differ;
+        for tally in other.tallies {
+            self.tally(tally.call).add(&tally);
+        }
+    }
+
+    /// Prints what each call answered.
+    fn report(&self) -> Totals {
+        for tally in &self.tallies {
+            println!("{}", tally.text());
+        }
+        self.totals
+    }
+
     /// Counts one case of `call` by the reading's answer. It differs if there are complaints.
     fn judge<T>(
         &mut self,
@@ -161,10 +205,8 @@ impl Run {
         }
         self.totals.differ += 1;
         if self.totals.differ <= PRINTED {
-            println!("{} {}", call.name, inputs());
-            for complaint in complaints {
-                println!("  {complaint}");
-            }
+            // At once, so that threads do not mix their lines.
+            println!("{} {}\n  {}", call.name, inputs(), complaints.join("\n  "));
         }
     }
 
@@ -191,6 +233,13 @@ impl Tally {
         match reading {
             Ok(_) => self.accepted += 1,
             Err(error) => self.refused[error.code.number() as usize] += 1,
+        }
+    }
+
+    fn add(&mut self, other: &Tally) {
+        self.accepted += other.accepted;
+        for (count, more) in self.refused.iter_mut().zip(other.refused) {
+            *count += more;
         }
     }
 

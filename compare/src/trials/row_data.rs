@@ -9,6 +9,7 @@ use crate::random::Random;
 use crate::reading::column::{Column, Kind};
 use crate::reading::encode::{write_original, write_update, Entry};
 use crate::reading::row::{look_up, row_end, Answer};
+use crate::reading::schema::SchemaFile;
 use crate::reading::update::{look_update, update_end, Change};
 use crate::reading::Error;
 
@@ -142,13 +143,7 @@ impl Subject {
     pub(super) fn any(random: &mut Random) -> Subject {
         let (sound, schemas) = generate::schema_file(random);
         let index = random.below(schemas.schema_count());
-        let mut subject = Subject {
-            columns: schemas.columns_at(index).to_vec(),
-            file: sound.clone(),
-            sound,
-            index,
-            number: index,
-        };
+        let mut subject = Subject::of(sound, &schemas, index);
         match random.below(32) {
             0 | 1 => subject.file = schema::input(random),
             2 => damage(random, &mut subject.file),
@@ -159,6 +154,17 @@ impl Subject {
             subject.number = random.below(schemas.schema_count() + 2);
         }
         subject
+    }
+
+    /// The schema of this number in a sound file.
+    pub(super) fn of(sound: Vec<u8>, schemas: &SchemaFile, index: usize) -> Subject {
+        Subject {
+            columns: schemas.columns_at(index).to_vec(),
+            file: sound.clone(),
+            sound,
+            index,
+            number: index,
+        }
     }
 
     /// Data of this form that keep the rules.
@@ -301,7 +307,6 @@ impl Subject {
 #[cfg(test)]
 mod tests {
     use super::*;
-    use crate::reading::schema::SchemaFile;
     use crate::reading::Input;
 
     /// Eight nullable bytes, and a nullable chapter with a byte that is not nullable.

@@ -5,6 +5,7 @@
 use std::hint::black_box;
 use std::time::Instant;
 
+use super::median;
 use crate::archive::{self, Found, Reply};
 use crate::generate;
 use crate::random::Random;
@@ -300,11 +301,6 @@ fn time<T>(order: &[usize], look_up: impl Fn(usize) -> T) -> f64 {
         black_box(look_up(black_box(*index)));
     }
     started.elapsed().as_nanos() as f64 / order.len() as f64
-}
-
-fn median(mut values: Vec<f64>) -> f64 {
-    values.sort_by(f64::total_cmp);
-    values[values.len() / 2]
 }
 
 /// The two lines above the table.

@@ -1,0 +1,211 @@
+//! How long it takes to read a whole row section into a table that has room for all its rows.
+
+use std::hint::black_box;
+use std::time::Instant;
+
+use super::median;
+use crate::archive;
+use crate::generate::{self, Section};
+use crate::random::Random;
+use crate::reading::column::{BYTES, CHAPTER, TEXT, WIDE_TEXT};
+use crate::reading::schema::SchemaFile;
+use crate::reading::section::{read_section, ROW_NUMBERS};
+use crate::reading::Input;
+use crate::text::{agree, Text};
+use crate::Totals;
+
+/// How many bytes a section has, to the end of a row.
+const BYTES_OF_SECTION: usize = 8_000_000;
+
+/// How many rounds a case has. In a round each side reads the section once; the other side comes
+/// first in the next.
+const ROUNDS: usize = 31;
+
+const SEED: u64 = 1;
+
+/// What the table holds before a section is read.
+const BEFORE: u32 = 0xA5A5_A5A5;
+
+/// What the rows of a section are like.
+#[derive(Clone, Copy, Debug)]
+enum Rows {
+    /// Three fixed columns, none nullable.
+    Short,
+    /// Thirty columns of all kinds but chapters.
+    Wide,
+    /// Parents, and children at two levels that are unchanged, changed or deleted.
+    Nested,
+}
+
+impl Rows {
+    const ALL: [Rows; 3] = [Rows::Short, Rows::Wide, Rows::Nested];
+
+    /// The name by which a case is asked for.
+    fn name(self) -> &'static str {
+        match self {
+            Rows::Short => "short",
+            Rows::Wide => "wide",
+            Rows::Nested => "nested",
+        }
+    }
+
+    /// The schema file.
+    fn file(self) -> Vec<u8> {
+        let [bytes, text, wide, chapter] = [BYTES, TEXT, WIDE_TEXT, CHAPTER].map(u32::from);
+        match self {
+            Rows::Short => generate::groups(&[3, 0x05, 0, 0x03, 0, 0x13, 0]),
+            Rows::Wide => {
+                let mut numbers = vec![30];
+                // Prefixes of one byte and of four.
+                for maximum in [100, 300, 600] {
+                    numbers.extend([0x03, 0, 0x05, 0, 0x07, 0, 0x0B, 0, 0x11, 0]);
+                    numbers.extend([text, 0, maximum, wide, 1, 100]);
+                    numbers.extend([0x06, 1, 0x14, 1, 0x03, 1]);
+                }
+                generate::groups(&numbers)
+            }
+            Rows::Nested => {
+                let mut numbers = vec![7, 0x03, 0, 0x48, 0, 0x05, 0, text, 0, 60];
+                numbers.extend([wide, 1, 40, 0x0B, 1, chapter, 1, 7]);
+                numbers.extend([6, 0x03, 0, 0x06, 1, text, 1, 60, bytes, 1, 300]);
+                numbers.extend([0x07, 0, chapter, 0, 8]);
+                numbers.extend([4, 0x14, 0, 0x07, 1, text, 0, 30, 0x05, 0]);
+                generate::groups(&numbers)
+            }
+        }
+    }
+}
+
+/// A section, its schema file and the table that it makes.
+struct Case {
+    file: Vec<u8>,
+    section: Vec<u8>,
+    wanted: Vec<u32>,
+}
+
+impl Case {
+    fn new(rows: Rows) -> Result<Case, String> {
+        let mut random = Random::new(SEED);
+        let file = rows.file();
+        let schemas = SchemaFile::read(&file, Input::Only).map_err(|error| error.text())?;
+        let mut section = Section::default();
+        while section.size() < BYTES_OF_SECTION {
+            let number = random.below(schemas.schema_count());
+            section.add_row(&mut random, &file, &schemas, number);
+        }
+        let (section, wanted) = section.end();
+        Ok(Case {
+            file,
+            section,
+            wanted,
+        })
+    }
+
+    fn rows(&self) -> usize {
+        self.wanted.len() / ROW_NUMBERS
+    }
+}
+
+/// Measures all cases and prints the table. Sides that do not agree are not measured.
+pub fn run() -> Result<Totals, String> {
+    let mut totals = Totals::default();
+    println!("Reading whole sections of {BYTES_OF_SECTION} bytes (medians of {ROUNDS} rounds):\n");
+    println!("{}", head());
+    for rows in Rows::ALL {
+        let case = Case::new(rows)?;
+        let of_case = compare(rows, &case);
+        totals.cases += of_case.cases;
+        totals.differ += of_case.differ;
+        if of_case.differ == 0 {
+            println!("{}", line(rows, &case, measure(&case)));
+        }
+    }
+    println!();
+    Ok(totals)
+}
+
+/// Reads each section once on each side, or the one of this name: for a tool that counts
+/// instructions.
+pub fn count(only: Option<&str>) -> Result<Totals, String> {
+    let mut totals = Totals::default();
+    for rows in Rows::ALL {
+        if only.is_some_and(|only| only != rows.name()) {
+            continue;
+        }
+        let case = Case::new(rows)?;
+        let of_case = compare(rows, &case);
+        totals.cases += of_case.cases;
+        totals.differ += of_case.differ;
+        println!("{}: {} rows a side", rows.name(), case.rows());
+    }
+    if totals.cases == 0 {
+        return Err("there is no such case".to_string());
+    }
+    Ok(totals)
+}
+
+/// Reads the section once on each side; both make the table that is wanted.
+fn compare(rows: Rows, case: &Case) -> Totals {
+    let wanted = Ok(case.rows());
+    let mut ours = vec![BEFORE; case.wanted.len()];
+    let reading = read_section(&case.file, &case.section, &mut ours);
+    let mut theirs = vec![BEFORE; case.wanted.len()];
+    let archive = archive::read_section(&case.file, &case.section, &mut theirs);
+    let do_agree = reading == wanted && agree(&wanted, &archive);
+    let differ = !do_agree || ours != case.wanted || theirs != case.wanted;
+    if differ {
+        println!("{}: {} rows are wanted", rows.name(), case.rows());
+        println!("  reading: {}", reading.text());
+        println!("  archive: {}", archive.text());
+        if do_agree {
+            println!("  with other tables");
+        }
+    }
+    Totals {
+        cases: 1,
+        differ: u64::from(differ),
+    }
+}
+
+/// The medians of archive and reading, in nanoseconds for a whole section.
+fn measure(case: &Case) -> [f64; 2] {
+    let mut table = vec![BEFORE; case.wanted.len()];
+    let mut rounds: [Vec<f64>; 2] = Default::default();
+    for round in 0..ROUNDS {
+        for turn in 0..2 {
+            let side = (round + turn) % 2;
+            let started = Instant::now();
+            let (file, section) = (black_box(&case.file), black_box(&case.section));
+            if side == 0 {
+                let _ = black_box(archive::read_section(file, section, black_box(&mut table)));
+            } else {
+                let _ = black_box(read_section(file, section, black_box(&mut table)));
+            }
+            rounds[side].push(started.elapsed().as_nanos() as f64);
+        }
+    }
+    rounds.map(median)
+}
+
+/// The two lines above the table.
+fn head() -> String {
+    let sides = format!(
+        "{:26}{:>9}{:>9}{:>9}{:>9}{:>10}",
+        "", "archive", "archive", "reading", "reading", "archive /"
+    );
+    let units = format!(
+        "{:<8}{:>9}{:>9}{:>9}{:>9}{:>9}{:>9}{:>10}",
+        "rows", "count", "bytes", "GB/s", "ns/row", "GB/s", "ns/row", "reading"
+    );
+    format!("{sides}\n{units}")
+}
+
+/// A line of the table.
+fn line(rows: Rows, case: &Case, medians: [f64; 2]) -> String {
+    let (size, count) = (case.section.len() as f64, case.rows() as f64);
+    let mut line = format!("{:<8}{:>9}{:>9.1}", rows.name(), case.rows(), size / count);
+    for median in medians {
+        line += &format!("{:>9.2}{:>9.1}", size / median, median / count);
+    }
+    line + &format!("{:>10.2}", medians[0] / medians[1])
+}

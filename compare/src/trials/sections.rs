@@ -1,0 +1,360 @@
+//! Trials of the section reader.
+
+use super::row_data::{Form, Subject};
+use super::rows::REFUSED;
+use super::{complaints, damage, filled_complaints, schema, Call, Run};
+use crate::archive;
+use crate::generate::{self, Shape};
+use crate::random::Random;
+use crate::reading::column::{BYTES, CHAPTER, TEXT};
+use crate::reading::schema::{SchemaFile, MAX_FILE_COLUMNS};
+use crate::reading::section::{
+    read_section, CHILD, CHILD_CHANGE, CHILD_DELETE, END, PARENT, ROW_NUMBERS,
+};
+use crate::reading::{Error, ErrorCode, Input, MAX_INPUT};
+use crate::text::{shown, shown_numbers};
+
+static READ: Call = Call {
+    name: "read_section",
+    codes: &[
+        ErrorCode::Truncated,
+        ErrorCode::NumberForm,
+        ErrorCode::NumberRange,
+        ErrorCode::SchemaLimit,
+        ErrorCode::RepeatedId,
+        ErrorCode::UnknownToken,
+        ErrorCode::UnknownChild,
+        ErrorCode::Unpaired,
+        ErrorCode::ChapterBit,
+        ErrorCode::ForceRule,
+        ErrorCode::Length,
+        ErrorCode::Trailing,
+        ErrorCode::Capacity,
+        ErrorCode::Oversize,
+    ],
+};
+
+/// Bytes that are no token, some of them tokens of elements that sections do not have.
+const NO_TOKENS: [u8; 8] = [0x00, 0x0A, 0x0C, 0x0D, 0x80, 0x8D, 0x8F, 0xFF];
+
+/// The longest value that a column can have.
+const LONGEST: usize = 32_767;
+
+/// How many sections are made under one file.
+const SECTIONS: usize = 4;
+
+/// Sections under one file, each with a table, and at times with another file.
+pub(super) fn read_case(random: &mut Random, run: &mut Run) {
+    let sound = sound_file(random);
+    let schemas = SchemaFile::read(&sound, Input::Schema).expect("the file is sound");
+    for _ in 0..SECTIONS {
+        let section = Maker::new(&sound, &schemas).section(random);
+        let mut file = sound.clone();
+        match random.below(32) {
+            0 => file = schema::input(random),
+            1 => file = generate::schema_file(random).0,
+            2 => damage(random, &mut file),
+            _ => {}
+        }
+        let space = space(random, &file, &section);
+        let before: Vec<u32> = (0..space).map(|_| random.bits() as u32).collect();
+        read(&file, &section, &before, run);
+    }
+}
+
+/// A file that keeps the rules, at times one with many schemas.
+fn sound_file(random: &mut Random) -> Vec<u8> {
+    if !random.one_in(8) {
+        return generate::schema_file(random).0;
+    }
+    let schemas = random.between(13, 60);
+    let shape = Shape {
+        schemas,
+        columns: random.between(2 * schemas, MAX_FILE_COLUMNS),
+        depth: random.between(2, 4),
+        repeats_ids: false,
+    };
+    generate::groups(&generate::shaped_numbers(random, shape))
+}
+
+/// Inputs at the size limit and over it, in both places, and sections that fill the limit.
+pub(super) fn oversized(zeros: &[u8], run: &mut Run) {
+    let file = generate::groups(&[1, BYTES.into(), 0, LONGEST as u32]);
+    let mut full = full_section();
+    full.push(END);
+    let files = [&file[..], &REFUSED, &zeros[..MAX_INPUT], zeros];
+    let inputs = [
+        &full[..0],
+        &full[MAX_INPUT - 1..MAX_INPUT],
+        &full[..MAX_INPUT],
+        &full,
+        &zeros[..MAX_INPUT],
+        zeros,
+    ];
+    let rows = MAX_INPUT.div_ceil(FULL_ROW);
+    for file in files {
+        for section in inputs {
+            for space in [0, ROW_NUMBERS * rows - 1, ROW_NUMBERS * rows + 1] {
+                let before: Vec<u32> = (0..space as u32).map(|at| !at).collect();
+                read(file, section, &before, run);
+            }
+        }
+    }
+    // Rows of no bytes, as many as there can be, and the same without their end.
+    let chapter = generate::groups(&[1, CHAPTER.into(), 0, 7, 1, TEXT.into(), 0, 1]);
+    let mut tokens = vec![PARENT; MAX_INPUT];
+    read(&chapter, &tokens, &[7; 5], run);
+    tokens[MAX_INPUT - 1] = END;
+    read(&chapter, &tokens, &[7; 5], run);
+}
+
+/// The bytes of a row in a full section: token, prefix and the longest value.
+const FULL_ROW: usize = 1 + 4 + LONGEST;
+
+/// A section as long as it may be: the longest rows of one column, then a shorter one.
+fn full_section() -> Vec<u8> {
+    let mut bytes = Vec::with_capacity(MAX_INPUT + 1);
+    while bytes.len() + 1 < MAX_INPUT {
+        let left = MAX_INPUT - 1 - bytes.len();
+        let length = LONGEST.min(left - 5);
+        bytes.push(PARENT);
+        bytes.extend((length as u32).to_le_bytes());
+        bytes.resize(bytes.len() + length, 0x2A);
+    }
+    bytes.push(END);
+    bytes
+}
+
+/// Reads a section on both sides into tables that begin as `before`.
+fn read(file: &[u8], section: &[u8], before: &[u32], run: &mut Run) {
+    let (mut ours, mut theirs) = (before.to_vec(), before.to_vec());
+    let reading = read_section(file, section, &mut ours);
+    let archive = archive::read_section(file, section, &mut theirs);
+    let mut complaints = complaints(&reading, &archive);
+    let filled = reading.as_ref().map(|rows| ROW_NUMBERS * rows);
+    let of_tables = filled_complaints(before, &ours, &theirs, 0, &filled, shown_numbers);
+    complaints.extend(of_tables);
+    run.judge(&READ, &reading, &complaints, || {
+        let space = before.len();
+        format!("{} {} {space}", shown(file), shown(section))
+    });
+}
+
+/// How many numbers a table has: often around what the section needs, at times anything.
+fn space(random: &mut Random, file: &[u8], section: &[u8]) -> usize {
+    let rows = match read_section(file, section, &mut []) {
+        Err(Error {
+            code: ErrorCode::Capacity,
+            offset,
+            ..
+        }) => offset,
+        _ => random.below(3),
+    };
+    let need = ROW_NUMBERS * rows;
+    match random.below(12) {
+        0 => 0,
+        1 => random.below(need + 1),
+        2 => need.saturating_sub(1),
+        3 => need.saturating_sub(ROW_NUMBERS),
+        4..=6 => need,
+        _ => need + random.below(3 * ROW_NUMBERS),
+    }
+}
+
+/// A section in the making, under the schemas of a sound file.
+struct Maker<'a> {
+    sound: &'a [u8],
+    schemas: &'a SchemaFile,
+    bytes: Vec<u8>,
+    /// The schema of the last row that is a child.
+    last_child: Option<usize>,
+}
+
+impl<'a> Maker<'a> {
+    fn new(sound: &'a [u8], schemas: &'a SchemaFile) -> Maker<'a> {
+        Maker {
+            sound,
+            schemas,
+            bytes: Vec::new(),
+            last_child: None,
+        }
+    }
+
+    /// A section: sound, with elements that break the rules, damaged, or any bytes.
+    fn section(mut self, random: &mut Random) -> Vec<u8> {
+        match random.below(32) {
+            0 => {
+                let length = random.below(60);
+                return random.bytes(length);
+            }
+            1 => return self.likely_bytes(random),
+            _ => {}
+        }
+        let rows = match random.below(128) {
+            0 => random.below(300),
+            1..=3 => random.below(30),
+            _ => random.below(6),
+        };
+        let may_be_wrong = random.one_in(2);
+        for _ in 0..rows {
+            match random.below(12) {
+                0 | 1 if may_be_wrong => self.add_wrong(random),
+                2..=4 if may_be_wrong => self.add_row(random, true),
+                _ => self.add_row(random, false),
+            }
+        }
+        self.add_end(random);
+        if random.one_in(4) {
+            damage(random, &mut self.bytes);
+        }
+        if random.one_in(6) {
+            self.end_where_refused(random);
+        }
+        self.bytes
+    }
+
+    /// Tokens and bytes that often follow them, in any order.
+    fn likely_bytes(&self, random: &mut Random) -> Vec<u8> {
+        let mut bytes = Vec::new();
+        for _ in 0..random.below(12) {
+            bytes.push(random.pick(&[PARENT, CHILD, CHILD_CHANGE, CHILD_DELETE, END]));
+            if random.one_in(2) {
+                bytes.extend(self.any_id(random).to_le_bytes());
+            }
+            let length = random.below(6);
+            bytes.extend((0..length).map(|_| random.pick(&[0x00, 0x00, 0x01, 0x80])));
+        }
+        bytes
+    }
+
+    /// Adds a row, with what may follow a child. Its data may be wrong.
+    fn add_row(&mut self, random: &mut Random, may_be_wrong: bool) {
+        let any = random.below(self.schemas.schema_count());
+        let index = random.pick(&[0, any, any]);
+        let subject = self.subject(index);
+        let data = |random: &mut Random, form| match may_be_wrong {
+            true => subject.data(random, form),
+            false => subject.sound_data(random, form),
+        };
+        let Some(id) = self.schemas.id_at(index) else {
+            self.bytes.push(PARENT);
+            self.bytes.extend(data(random, Form::Original));
+            return;
+        };
+        self.last_child = Some(index);
+        self.add_token(CHILD, id);
+        self.bytes.extend(data(random, Form::Original));
+        match random.below(3) {
+            0 => {}
+            1 => {
+                self.add_token(CHILD_CHANGE, id);
+                self.bytes.extend(data(random, Form::Update));
+            }
+            _ => self.add_token(CHILD_DELETE, id),
+        }
+    }
+
+    /// Adds what breaks a rule, or may do so.
+    fn add_wrong(&mut self, random: &mut Random) {
+        match random.below(8) {
+            0 => self.bytes.push(END),
+            1 => {
+                let any = random.byte();
+                let token = random.pick(&NO_TOKENS);
+                self.bytes.push(random.pick(&[token, token, token, any]));
+            }
+            2 => {
+                let id = self.any_id(random);
+                self.add_token(CHILD, id);
+            }
+            3 => {
+                let id = self.any_id(random);
+                self.add_token(random.pick(&[CHILD_CHANGE, CHILD_DELETE]), id);
+            }
+            _ => self.add_late(random),
+        }
+    }
+
+    /// Adds a sound change or deletion of the last child, which may not stand directly before
+    /// it.
+    fn add_late(&mut self, random: &mut Random) {
+        let last = self
+            .last_child
+            .map(|index| (index, self.schemas.id_at(index)));
+        let Some((index, Some(id))) = last else {
+            return;
+        };
+        if random.one_in(2) {
+            self.add_token(CHILD_DELETE, id);
+        } else {
+            let data = self.subject(index).sound_data(random, Form::Update);
+            self.add_token(CHILD_CHANGE, id);
+            self.bytes.extend(data);
+        }
+    }
+
+    fn subject(&self, index: usize) -> Subject {
+        Subject::of(self.sound.to_vec(), self.schemas, index)
+    }
+
+    /// Adds the end, or at times none, more than that, or an element that is cut short.
+    fn add_end(&mut self, random: &mut Random) {
+        match random.below(16) {
+            0 => {}
+            1 => self.bytes.extend([END, END]),
+            2 => {
+                let length = random.between(1, 8);
+                self.bytes.push(END);
+                self.bytes.extend(random.bytes(length));
+            }
+            3 => {
+                let id = self.any_id(random);
+                self.add_token(random.pick(&[CHILD, CHILD_CHANGE, CHILD_DELETE]), id);
+                self.bytes.truncate(self.bytes.len() - random.between(1, 4));
+            }
+            _ => self.bytes.push(END),
+        }
+    }
+
+    fn add_token(&mut self, token: u8, id: u32) {
+        self.bytes.push(token);
+        self.bytes.extend(id.to_le_bytes());
+    }
+
+    /// A child id of the file, one that is known if high bits are lost, or any.
+    fn any_id(&self, random: &mut Random) -> u32 {
+        let any = random.bits() as u32;
+        let index = random.below(self.schemas.schema_count());
+        let Some(id) = self.schemas.id_at(index) else {
+            return random.pick(&[0, 1, any]);
+        };
+        let near = [id + 1, id.wrapping_sub(1)];
+        let lost = [id | 1 << 21, id | 1 << 24, id | 1 << 31];
+        let [near, lost] = [random.pick(&near), random.pick(&lost)];
+        random.pick(&[id, id, id, near, lost, any])
+    }
+
+    /// Ends the section where it is refused, or a little further, so that two errors meet.
+    fn end_where_refused(&mut self, random: &mut Random) {
+        if let Err(error) = read_section(self.sound, &self.bytes, &mut []) {
+            if error.code != ErrorCode::Capacity {
+                self.bytes.truncate(error.offset + random.below(6));
+            }
+        }
+    }
+}
+
+#[cfg(test)]
+mod tests {
+    use super::*;
+
+    #[test]
+    fn a_full_section_has_the_limit_and_is_sound() {
+        let file = generate::groups(&[1, BYTES.into(), 0, LONGEST as u32]);
+        let section = full_section();
+        assert_eq!(section.len(), MAX_INPUT);
+        let rows = MAX_INPUT.div_ceil(FULL_ROW);
+        let mut table = vec![0; ROW_NUMBERS * rows];
+        assert_eq!(read_section(&file, &section, &mut table), Ok(rows));
+    }
+}
