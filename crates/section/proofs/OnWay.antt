@@ -16,7 +16,7 @@ use Rattle.row.specs.Presence.{one}
 use Rattle.section.specs.Steps.{Step, noStep, within, spanAt, spanError, leap}
 use Rattle.section.specs.Shapes.{columnOf, gapOf, hasWord}
 use Rattle.section.specs.Ways.{dataEnd, dataHas, dataSteps, Leads, Led}
-use Rattle.section.proofs.Leap.{within-in, within-past, leap-skip, leap-next, leap-error, leap-end}
+use Rattle.section.proofs.Leap.{within-in, within-past, leap-skip, leap-over, leap-error, leap-end}
 
 -- Before word j, at p: the data end where the way over the steps that are left ends.
 pub record OnWay (update : Bool) (cs : List Column) (s : Bytes) (start tail count p j : ℕ) : Type 0 where
@@ -28,16 +28,6 @@ pub record OnWay (update : Bool) (cs : List Column) (s : Bytes) (start tail coun
 one-is : (t : Bool) → one t ≡ 1 → t ≡ true
 one-is true e = refl
 one-is false e = absurd (omega arith)
-
-one-not : (t : Bool) → (one t ≡ 1 → ⊥) → t ≡ false
-one-not true e = absurd (e refl)
-one-not false e = refl
-
--- the bytes of a field that may be there
-pub product : (m has : ℕ) → has ≤ 1 → m ≤ 131074 → m * has ≤ 131074
-product m zero f y = let u : m * 0 ≡ 0 = omega arith in rw u (omega arith)
-product m (suc zero) f y = let u : m * 1 ≡ m = omega arith in rw u y
-product m (suc (suc i)) f y = absurd (omega arith)
 
 module _ (words : List ℕ) (update : Bool) (cs : List Column) (s : Bytes) (start fields first count tail force : ℕ)
     (l : Led words update cs s start fields first count tail force) where
@@ -65,7 +55,7 @@ module _ (words : List ℕ) (update : Bool) (cs : List Column) (s : Bytes) (star
       q-near : q ≤ p + 65536
       q-near = omega arith
 
-      -- a length that is refused, of a field that is there
+      -- a length that is refused
       pub way-refused : (k : ErrorKind) (has : ℕ) → has ≡ one (hasWord update s start force word j) → has ≡ 1 → spanError (columnOf word) s q ≡ codeOf k →
           dataEnd update cs s start ≡ bad (codeOf k) q input.Single
       way-refused k has e t r =
@@ -76,33 +66,36 @@ module _ (words : List ℕ) (update : Bool) (cs : List Column) (s : Bytes) (star
           ∙ leap-error (dataHas update cs s start) s (dataSteps update cs) tail p j inside m (λ z. omega (arith, code-positive k, x))
           ∙ rw (x, ← q-step) refl
 
-      -- a length that is refused, of a field that is not there
-      pub way-skip : (has : ℕ) → has ≡ one (hasWord update s start force word j) → (has ≡ 1 → ⊥) → OnWay update cs s start tail count q (j + 1)
-      way-skip has e t =
-          let m : dataHas update cs s start (stepAt .mark) ≡ false = sym (lead .has) ∙ one-not (hasWord update s start force word j) (λ z. t (e ∙ z)) in
-          record {
-            same = w .same ∙ leap-skip (dataHas update cs s start) s (dataSteps update cs) tail p j inside m ∙ rw (← q-step) refl;
-            far = omega (arith, w .far, q-near);
-            most = omega arith;
-            behind = omega (arith, w .behind);
-          }
-
       -- a field, or none
-      pub way-next : (has m : ℕ) → has ≡ one (hasWord update s start force word j) → has ≤ 1 → spanError (columnOf word) s q ≡ 0 → m ≡ spanAt (columnOf word) s q →
-          m ≤ 131074 → OnWay update cs s start tail count (q + m * has) (j + 1)
-      way-next has m e f r x y =
-          let z : spanError (stepAt .mark .column) s (p + stepAt .gap) ≡ 0 =
-          ap (λ (c : Column). spanError c s (p + stepAt .gap)) (sym (lead .column)) ∙ ap (λ (v : ℕ). spanError (columnOf word) s v) (sym q-step) ∙ r in
-          let v : spanAt (stepAt .mark .column) s (p + stepAt .gap) ≡ m =
-          ap (λ (c : Column). spanAt c s (p + stepAt .gap)) (sym (lead .column)) ∙ ap (λ (u : ℕ). spanAt (columnOf word) s u) (sym q-step) ∙ sym x in
-          let b : one (dataHas update cs s start (stepAt .mark)) ≡ has = ap one (sym (lead .has)) ∙ sym e in
-          let k : m * has ≤ 131074 = product m has f y in
-          record {
-            same = w .same ∙ leap-next (dataHas update cs s start) s (dataSteps update cs) tail p j inside z ∙ rw (v, b, ← q-step) refl;
-            far = omega (arith, w .far, q-near);
-            most = omega arith;
-            behind = omega (arith, w .behind);
-          }
+      pub way-next : (has m : ℕ) → has ≡ one (hasWord update s start force word j) → (has ≡ 1 → spanError (columnOf word) s q ≡ 0) → m ≡ spanAt (columnOf word) s q * has →
+          m ≤ 131074 → OnWay update cs s start tail count (q + m) (j + 1)
+      way-next has m e r x y = by (hasWord update s start force word j) refl
+        where
+          next : leap (dataHas update cs s start) s (drop j (dataSteps update cs)) tail p ≡ leap (dataHas update cs s start) s (drop (j + 1) (dataSteps update cs)) tail (q + m) →
+              OnWay update cs s start tail count (q + m) (j + 1)
+          next n =
+              record {
+                same = w .same ∙ n;
+                far = omega (arith, w .far, q-near);
+                most = omega arith;
+                behind = omega (arith, w .behind);
+              }
+
+          span-same : spanAt (stepAt .mark .column) s (p + stepAt .gap) ≡ spanAt (columnOf word) s q
+          span-same = ap (λ (c : Column). spanAt c s (p + stepAt .gap)) (sym (lead .column)) ∙ ap (λ (u : ℕ). spanAt (columnOf word) s u) (sym q-step)
+
+          by : (t : Bool) → hasWord update s start force word j ≡ t → OnWay update cs s start tail count (q + m) (j + 1)
+          by true t =
+              let o : has ≡ 1 = e ∙ ap one t in
+              let z : spanError (stepAt .mark .column) s (p + stepAt .gap) ≡ 0 =
+              ap (λ (c : Column). spanError c s (p + stepAt .gap)) (sym (lead .column)) ∙ ap (λ (v : ℕ). spanError (columnOf word) s v) (sym q-step) ∙ r o in
+              let v : m ≡ spanAt (columnOf word) s q = x ∙ ap (λ (u : ℕ). spanAt (columnOf word) s q * u) o ∙ omega arith in
+              next (leap-over (dataHas update cs s start) s (dataSteps update cs) tail p j inside (sym (lead .has) ∙ t) z ∙ rw (span-same, ← v, ← q-step) refl)
+          by false t =
+              let o : has ≡ 0 = e ∙ ap one t in
+              let v : m ≡ 0 = x ∙ ap (λ (u : ℕ). spanAt (columnOf word) s q * u) o ∙ omega arith in
+              let u : q ≡ q + m = omega arith in
+              next (leap-skip (dataHas update cs s start) s (dataSteps update cs) tail p j inside (sym (lead .has) ∙ t) ∙ rw (← q-step, ← u) refl)
 
     module _ (h : count ≤ j) where
       last : dataEnd update cs s start ≡ within s (p + tail)

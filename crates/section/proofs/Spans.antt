@@ -1,18 +1,20 @@
 -- Laws of one step as code takes it: whether the row has a field, the length of a field, its bytes.
 -- Assumes nothing.
-use Prim.Native.Nat.{ℕ, _+_, _*_, _-_, _≤_, _<_}
-use mathlib.Core.Bool.{Bool, true, false, true≢false}
+use Prim.Native.Nat.{ℕ, zero, suc, _+_, _*_, _-_, _/_, _^_, _≤_, _<_}
+use mathlib.Core.Bool.{Bool, true, false, not, true≢false}
 use mathlib.Core.Logic.{_⊎_, inl, inr}
 use mathlib.Core.Path.{_≡_, refl, sym, ap, _∙_}
 use native.Mathlib.Omega.{arith}
 use lib.ListN.{length, getD, take, drop}
-use lib.Dec.{ltb, leb}
-use borrow.Author.Tests.{leb-true}
+use lib.Dec.{ltb, leb, eqb}
+use borrow.Author.Tests.{leb-true, le-leb}
 use Rattle.wire.specs.declared.error.ErrorKind.{ErrorKind}
-use Rattle.wire.specs.Read.{Bytes, pick}
+use Rattle.wire.specs.Errors.{codeOf}
+use Rattle.wire.specs.Bits.{bitAt, bitSet}
+use Rattle.wire.specs.Read.{Bytes, AreBytes, pick}
 use Rattle.wire.specs.Integers.{intAt}
-use Rattle.wire.proofs.Laws.{int-one, int-four, int-fits}
-use Rattle.wire.proofs.Pieces.{ok-ok}
+use Rattle.wire.proofs.Laws.{int-one, int-four, int-fits, bit-past}
+use Rattle.wire.proofs.Pieces.{ok-ok, int-small}
 use Rattle.column.specs.declared.column.Column.{Column}
 use Rattle.column.specs.declared.column.LengthCheck.{LengthCheck}
 use Rattle.column.specs.declared.column.LengthCheck.the-variants as check
@@ -20,11 +22,12 @@ use Rattle.column.specs.declared.types.Kind.{Kind}
 use Rattle.column.specs.declared.types.Kind.the-variants.{Fixed, Variable, Wide, Chapter, Unknown}
 use Rattle.column.specs.Types.{variableKind}
 use Rattle.column.specs.Columns.{kind, width, isVariable, prefixSize, lengthErrorOf, lengthError, toldLength}
+use Rattle.column.proofs.Laws.{code-positive}
 use Rattle.row.specs.Presence.{one, mark, present}
 use Rattle.row.specs.Updates.{carried}
 use Rattle.row.proofs.Arrays.{rest}
 use Rattle.section.specs.declared.steps.Span.the-variants as span
-use Rattle.section.specs.Steps.{spanError}
+use Rattle.section.specs.Steps.{spanAt, spanError}
 use Rattle.section.specs.Shapes.{columnOf, bitOfWord, hasWord}
 use Rattle.section.specs.Spans.{SpanIs, PrefixThere}
 use Rattle.section.proofs.Leap.{error-fixed, span-fixed, error-short, span-short, error-whole, span-whole}
@@ -35,20 +38,44 @@ one-few : (b : Bool) → one b ≤ 1
 one-few true = omega arith
 one-few false = omega arith
 
+-- a bit past the end
+pub bit-none : (map : Bytes) (i : ℕ) → length map ≤ i / 8 → (0 ≡ one (bitSet map i)) × (0 ≤ 1)
+bit-none map i h = (sym (ap one (bit-past map i h)), omega arith)
+
+-- a bit as a number
+pub bit-number : (map : Bytes) (i b : ℕ) → b ≡ bitAt map i → b < 2 → (b ≡ one (bitSet map i)) × (b ≤ 1)
+unfolding bitSet
+bit-number map i b e h = (e ∙ go (bitAt map i) (rw e at h), omega arith)
+  where
+    go : (x : ℕ) → x < 2 → x ≡ one (eqb x 1)
+    go zero l = refl
+    go (suc zero) l = refl
+    go (suc (suc n)) l = absurd (omega arith)
+
 -- the part of an input from a position on, as a slice is cut
 abbrev from : Bytes → ℕ → Bytes
 from s at = take (length s - at) (drop at s)
 
-module _ (s : Bytes) (map force word number : ℕ) {update b : Bool} {c : Column} {r : ℕ} (e : c ≡ columnOf word) (h : r ≡ one b) where
+module _ (s : Bytes) (map force word number : ℕ) {update : Bool} where
   pub word-carried :
-      update ≡ true → b ≡ carried (from s map) (from s force) (mark c number) → (r ≡ one (hasWord update s map force word number)) × (r ≤ 1)
-  word-carried u k =
-      let x : b ≡ hasWord update s map force word number = rw (u, ← rest s map, ← rest s force, ← e) k in
-      (h ∙ ap one x, rw h (one-few b))
+      {u f : ℕ} → update ≡ true → u ≡ one (bitSet (from s map) number) → f ≡ one (bitSet (from s force) number) →
+      (u * (1 - f) ≡ one (hasWord update s map force word number)) × (u * (1 - f) ≤ 1)
+  unfolding carried
+  word-carried {u} {f} t x y =
+      let x′ : u ≡ one (bitSet (drop map s) number) = x ∙ ap (λ (l : Bytes). one (bitSet l number)) (rest s map) in
+      let y′ : f ≡ one (bitSet (drop force s) number) = y ∙ ap (λ (l : Bytes). one (bitSet l number)) (rest s force) in
+      rw (t, x′, y′) (go (bitSet (drop map s) number) (bitSet (drop force s) number))
+    where
+      go : (a b : Bool) → (one a * (1 - one b) ≡ one (pick a (not b) false)) × (one a * (1 - one b) ≤ 1)
+      go true true = (refl, omega arith)
+      go true false = (refl, omega arith)
+      go false true = (refl, omega arith)
+      go false false = (refl, omega arith)
 
   pub word-present :
-      update ≡ false → b ≡ present (from s map) (mark c (bitOfWord word)) → (r ≡ one (hasWord update s map force word number)) × (r ≤ 1)
-  word-present u k =
+      {b : Bool} {c : Column} {r : ℕ} → c ≡ columnOf word → r ≡ one b → update ≡ false → b ≡ present (from s map) (mark c (bitOfWord word)) →
+      (r ≡ one (hasWord update s map force word number)) × (r ≤ 1)
+  word-present {b} e h u k =
       let x : b ≡ hasWord update s map force word number = rw (u, ← rest s map, ← e) k in
       (h ∙ ap one x, rw h (one-few b))
 
@@ -81,6 +108,17 @@ module _ (s : Bytes) (at size : ℕ) (t : PrefixThere s at size) where
         v + 256 * (w + 256 * (x + 256 * y)) ≡ intAt s at size
     length-word {v} {w} {x} {y} e f g h = rw four (ok-ok (int-four s at v w x y all-there e f g h ∙ int-fits s at 4 all-there))
 
+-- a length of four bytes at most
+pub prefix-small : (s : Bytes) (at size : ℕ) → AreBytes s → PrefixThere s at size → intAt s at size < 4294967296
+prefix-small s at size o t = go (t .sizes)
+  where
+    bound : (k : ℕ) → at + k ≤ length s → intAt s at k < 256 ^ k
+    bound k l = int-small s at k (intAt s at k) o (int-fits s at k l)
+
+    go : (size ≡ 1) ⊎ (size ≡ 4) → intAt s at size < 4294967296
+    go (inl e) = rw e (omega (arith, bound 1 (omega (arith, t .there))))
+    go (inr e) = rw e (bound 4 (omega (arith, t .there)))
+
 -- The bytes of a field.
 
 -- an allowed length is not over twice the maximum
@@ -109,9 +147,43 @@ length-most c n = go (kind c)
     go Chapter v e = never v
     go Unknown v e = never v
 
+-- what has is, where it is 0 or 1
+pub data Bit : ℕ → Type 0 where
+  unset : Bit 0
+  set : Bit 1
+
+pub bit-of : (has : ℕ) → has ≤ 1 → Bit has
+bit-of zero h = unset
+bit-of (suc zero) h = set
+bit-of (suc (suc n)) h = absurd (omega arith)
+
+-- a number times 0 or 1 is no more than the number
+pub times-most : (n has most : ℕ) → has ≤ 1 → n ≤ most → n * has ≤ most
+times-most n has most h l = go (bit-of has h)
+  where
+    go : {has : ℕ} → Bit has → n * has ≤ most
+    go unset = let z : n * 0 ≡ 0 = omega arith in rw z (omega arith)
+    go set = let z : n * 1 ≡ n = omega arith in rw z l
+
+-- a length of no bytes is allowed
+length-none : (c : Column) → lengthError c 0 ≡ 0
+unfolding lengthError
+length-none c = go (kind c)
+  where
+    go : (k : Kind) → lengthErrorOf k (c .maximum) 0 ≡ 0
+    go (Fixed w) = refl
+    go Variable = rw (le-leb 0 (c .maximum) (omega arith))
+    go Wide = rw (le-leb 0 (2 * c .maximum) (omega arith))
+    go Chapter = refl
+    go Unknown = refl
+
 module _ (c : Column) (s : Bytes) (at : ℕ) where
-  pub span-plain : {n : ℕ} → isVariable c ≡ false → n ≡ width c → n ≤ 131074 → SpanIs c s at (span.Bytes n)
-  span-plain v h l = (error-fixed c s at v, h ∙ sym (span-fixed c s at v), l)
+  -- bytes that are known, where the field is there
+  masked : {n has : ℕ} → spanError c s at ≡ 0 → n ≡ spanAt c s at → n ≤ 131074 → has ≤ 1 → SpanIs c s at has (span.Bytes (n * has))
+  masked {n} {has} e q l h = ((λ _. e), ap (λ (x : ℕ). x * has) q, times-most n has 131074 h l)
+
+  pub span-plain : {n has : ℕ} → isVariable c ≡ false → n ≡ width c → n ≤ 131074 → has ≤ 1 → SpanIs c s at has (span.Bytes (n * has))
+  span-plain v h l b = masked (error-fixed c s at v) (h ∙ sym (span-fixed c s at v)) l b
 
   prefix-sizes : {n : ℕ} → n ≡ prefixSize c → (n ≡ 1) ⊎ (n ≡ 4)
   unfolding prefixSize
@@ -129,30 +201,52 @@ module _ (c : Column) (s : Bytes) (at : ℕ) where
         go (inl e) = omega arith
         go (inr e) = omega arith
 
-    pub span-lacked : length s < at + n → SpanIs c s at (span.Bytes n)
-    span-lacked l =
+    pub span-lacked : {has : ℕ} → length s < at + n → has ≤ 1 → SpanIs c s at has (span.Bytes (n * has))
+    span-lacked l b =
         let m : length s < at + prefixSize c = omega arith in
-        (error-short c s at v m, h ∙ sym (span-short c s at v m), omega (arith, few))
+        masked (error-short c s at v m) (h ∙ sym (span-short c s at v m)) (omega (arith, few)) b
+
+    pub size-small : {has : ℕ} → has ≤ 1 → n * has ≤ 4
+    size-small {has} b = times-most n has 4 b few
 
     module _ (l : at + n ≤ length s) where
       pub prefix-there : PrefixThere s at n
       prefix-there = record { sizes = prefix-sizes h; there = l }
 
-      module _ (r : LengthCheck) {m : ℕ} (e : m ≡ intAt s at n) (t : toldLength r ≡ lengthError c m) where
-        told : spanError c s at ≡ toldLength r
-        told =
+      module _ (r : LengthCheck) {m has : ℕ} (e : m ≡ intAt s at n) (b : has ≤ 1) (t : toldLength r ≡ lengthError c (m * has)) where
+        -- of a field that is there
+        told : has ≡ 1 → spanError c s at ≡ toldLength r
+        told o =
             let i : at + prefixSize c ≤ length s = omega arith in
-            error-whole c s at v i ∙ ap (λ (k : ℕ). lengthError c (intAt s at k)) (sym h) ∙ ap (lengthError c) (sym e) ∙ sym t
+            let z : m ≡ m * has = rw o (omega arith) in
+            error-whole c s at v i ∙ ap (λ (k : ℕ). lengthError c (intAt s at k)) (sym h) ∙ ap (lengthError c) (sym e ∙ z) ∙ sym t
 
-        pub span-refused : (k : ErrorKind) → r ≡ check.Refused k → SpanIs c s at (span.Refused k)
-        span-refused k g = told ∙ ap toldLength g
+        pub span-refused : (k : ErrorKind) → r ≡ check.Refused k → SpanIs c s at has (span.Refused k)
+        span-refused k g = (there, told there ∙ ap toldLength g)
+          where
+            go : {x : ℕ} → Bit x → toldLength r ≡ lengthError c (m * x) → x ≡ 1
+            go unset y =
+                let z : m * 0 ≡ 0 = omega arith in
+                let w : codeOf k ≡ 0 = sym (ap toldLength g) ∙ y ∙ ap (lengthError c) z ∙ length-none c in
+                absurd (omega (arith, code-positive k))
+            go set y = refl
 
-        module _ (g : r ≡ check.Allowed) (b : c .maximum < 65536) where
-          pub span-most : n + m ≤ 131074
-          span-most = omega (arith, few, length-most c m v (sym t ∙ ap toldLength g))
+            there : has ≡ 1
+            there = go (bit-of has b) t
 
-          pub span-allowed : SpanIs c s at (span.Bytes (n + m))
-          span-allowed =
-              let i : at + prefixSize c ≤ length s = omega arith in
-              let z : n + m ≡ prefixSize c + intAt s at (prefixSize c) = rw (← h) (ap (λ (x : ℕ). n + x) e) in
-              (told ∙ ap toldLength g, z ∙ sym (span-whole c s at v i), span-most)
+        module _ (g : r ≡ check.Allowed) (x : c .maximum < 65536) where
+          pub length-small : m * has ≤ 131070
+          length-small = omega (arith, length-most c (m * has) v (sym t ∙ ap toldLength g))
+
+          pub span-allowed : SpanIs c s at has (span.Bytes (n * has + m * has))
+          span-allowed = ((λ o. told o ∙ ap toldLength g), go (bit-of has b), omega (arith, length-small, size-small b))
+            where
+              i : at + prefixSize c ≤ length s
+              i = omega arith
+
+              go : {x : ℕ} → Bit x → n * x + m * x ≡ spanAt c s at * x
+              go unset = omega arith
+              go set =
+                  let z : n + m ≡ prefixSize c + intAt s at (prefixSize c) = rw (← h) (ap (λ (y : ℕ). n + y) e) in
+                  let w : n + m ≡ spanAt c s at = z ∙ sym (span-whole c s at v i) in
+                  omega arith

@@ -102,20 +102,16 @@ fn scan<'a>(
                             let word = words[first + j];
                             let q = p + (word / 4_294_967_296 % 65_536) as usize;
                             let has = has_word(section, update, start, force, word, j);
-                            match span_at(word, section, q) {
+                            match span_at(word, section, q, has) {
                                 Span::Refused(k) => {
-                                    if has == 1 {
-                                        break 'section RowsRead::Refused(Error {
-                                            kind: k,
-                                            offset: q,
-                                            input: Input::Single,
-                                        });
-                                    }
-                                    p = q;
-                                    j += 1;
+                                    break 'section RowsRead::Refused(Error {
+                                        kind: k,
+                                        offset: q,
+                                        input: Input::Single,
+                                    });
                                 }
                                 Span::Bytes(n) => {
-                                    p = q + n * has;
+                                    p = q + n;
                                     j += 1;
                                 }
                             }

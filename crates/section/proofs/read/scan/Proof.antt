@@ -12,7 +12,7 @@ use Rattle.section.specs.Shapes.{columnOf, gapOf, slotColumns}
 use Rattle.section.specs.Spans.{SpanIs}
 use Rattle.section.specs.Ways.{dataEnd, Led}
 use Rattle.section.proofs.Scan.{AtElement, at-start, head-refused, deleted, delete-small, data-refused, row-ended, change-ended, head-ahead, table-long, scanned-rows, scanned-refused}
-use Rattle.section.proofs.OnWay.{OnWay, product, way-start, way-refused, way-skip, way-next, way-short, way-ended}
+use Rattle.section.proofs.OnWay.{OnWay, way-start, way-refused, way-next, way-short, way-ended}
 use borrow.Author.Needs.{needs}
 use Rattle.section.proofs.read.scan.Statement.{statement}
 use Rattle.section.proofs.read.scan.Tie as tie
@@ -156,28 +156,7 @@ span-at-requires c κs =
     let fields = c .before .before .before .before .before .fields in
     let loop = c .before .before .before .loop in
     let loop-test = c .before .before .loop-test in
-    let l : Led (args .words .now) (eqb (kind .given .0 .0) 3) (slotColumns (args .slots .now) (kind .given .0 .1 .0)) (args .section .now) (kind .given .0 .1 .1 .1 .0) ((fields .given .0) .0) ((fields .given .0) .1 .0) ((fields .given .0) .1 .1 .0) ((fields .given .0) .1 .1 .1 .0) ((fields .given .0) .1 .1 .1 .1 .0) = rw (fields .given .1) at (way-over .ensures) in l .leads (loop .j) (loop-test .taken) .width
-
-loop-again : tie.Need-loop-again Inv-loop μ-loop Inv-section μ-section
-loop-again c =
-    let args = c .before .before .before .before .before .before .before .before .before .before .before .before .before .before .before .before .before .before .before .before .args in
-    let kind = c .before .before .before .before .before .before .before .before .before .before .before .before .before .before .kind in
-    let way-over = c .before .before .before .before .before .before .before .before .before .before .before .before .way-over in
-    let fields = c .before .before .before .before .before .before .before .before .before .before .fields in
-    let loop = c .before .before .before .before .before .before .before .before .loop in
-    let loop-test = c .before .before .before .before .before .before .before .loop-test in
-    let has-word = c .before .before .before .before .before .has-word in
-    let l : Led (args .words .now) (eqb (kind .given .0 .0) 3) (slotColumns (args .slots .now) (kind .given .0 .1 .0)) (args .section .now) (kind .given .0 .1 .1 .1 .0) ((fields .given .0) .0) ((fields .given .0) .1 .0) ((fields .given .0) .1 .1 .0) ((fields .given .0) .1 .1 .1 .0) ((fields .given .0) .1 .1 .1 .1 .0) = rw (fields .given .1) at (way-over .ensures) in way-skip _ _ _ _ _ _ _ _ _ _ l _ _ (loop .inv) (loop-test .taken) _ refl (has-word .result) (has-word .ensures .0) (c .if1 .left)
-
-mul-p : tie.Need-mul-p Inv-loop μ-loop Inv-section μ-section
-mul-p c =
-    let args = c .before .before .before .before .before .before .before .before .before .before .before .before .before .before .before .before .before .before .before .args in
-    let fields = c .before .before .before .before .before .before .before .before .before .fields in
-    let loop = c .before .before .before .before .before .before .before .loop in
-    let has-word = c .before .before .before .before .has-word in
-    let span-at = c .before .before .before .span-at in
-    let n = c .before .n in
-    let sp : SpanIs (columnOf (getD (args .words .now) ((fields .given .0) .1 .0 + loop .j) 0)) (args .section .now) (loop .p + gapOf (getD (args .words .now) ((fields .given .0) .1 .0 + loop .j) 0)) (span.Bytes (n .given .0 .0)) = rw (n .given .1) at (span-at .ensures) in omega (arith, product (n .given .0 .0) (has-word .result) (has-word .ensures .1) (sp .2))
+    let l : Led (args .words .now) (eqb (kind .given .0 .0) 3) (slotColumns (args .slots .now) (kind .given .0 .1 .0)) (args .section .now) (kind .given .0 .1 .1 .1 .0) ((fields .given .0) .0) ((fields .given .0) .1 .0) ((fields .given .0) .1 .1 .0) ((fields .given .0) .1 .1 .1 .0) ((fields .given .0) .1 .1 .1 .1 .0) = rw (fields .given .1) at (way-over .ensures) in (l .leads (loop .j) (loop-test .taken) .width, c .has-word .ensures .1)
 
 add-p : tie.Need-add-p Inv-loop μ-loop Inv-section μ-section
 add-p c =
@@ -192,11 +171,11 @@ add-p c =
     let span-at = c .before .before .before .span-at in
     let n = c .before .n in
     let l : Led (args .words .now) (eqb (kind .given .0 .0) 3) (slotColumns (args .slots .now) (kind .given .0 .1 .0)) (args .section .now) (kind .given .0 .1 .1 .1 .0) ((fields .given .0) .0) ((fields .given .0) .1 .0) ((fields .given .0) .1 .1 .0) ((fields .given .0) .1 .1 .1 .0) ((fields .given .0) .1 .1 .1 .1 .0) = rw (fields .given .1) at (way-over .ensures) in
-    let sp : SpanIs (columnOf (getD (args .words .now) ((fields .given .0) .1 .0 + loop .j) 0)) (args .section .now) (loop .p + gapOf (getD (args .words .now) ((fields .given .0) .1 .0 + loop .j) 0)) (span.Bytes (n .given .0 .0)) = rw (n .given .1) at (span-at .ensures) in
-    omega (arith, product (n .given .0 .0) (has-word .result) (has-word .ensures .1) (sp .2), loop .inv .far, l .few, pre .2, loop-test .taken)
+    let sp : SpanIs (columnOf (getD (args .words .now) ((fields .given .0) .1 .0 + loop .j) 0)) (args .section .now) (loop .p + gapOf (getD (args .words .now) ((fields .given .0) .1 .0 + loop .j) 0)) (has-word .result) (span.Bytes (n .given .0 .0)) = rw (n .given .1) at (span-at .ensures) in
+    omega (arith, sp .2, loop .inv .far, l .few, pre .2, loop-test .taken)
 
-loop-again-2 : tie.Need-loop-again-2 Inv-loop μ-loop Inv-section μ-section
-loop-again-2 c =
+loop-again : tie.Need-loop-again Inv-loop μ-loop Inv-section μ-section
+loop-again c =
     let args = c .before .before .before .before .before .before .before .before .before .before .before .before .before .before .before .before .before .before .before .args in
     let kind = c .before .before .before .before .before .before .before .before .before .before .before .before .before .kind in
     let way-over = c .before .before .before .before .before .before .before .before .before .before .before .way-over in
@@ -207,8 +186,8 @@ loop-again-2 c =
     let span-at = c .before .before .before .span-at in
     let n = c .before .n in
     let l : Led (args .words .now) (eqb (kind .given .0 .0) 3) (slotColumns (args .slots .now) (kind .given .0 .1 .0)) (args .section .now) (kind .given .0 .1 .1 .1 .0) ((fields .given .0) .0) ((fields .given .0) .1 .0) ((fields .given .0) .1 .1 .0) ((fields .given .0) .1 .1 .1 .0) ((fields .given .0) .1 .1 .1 .1 .0) = rw (fields .given .1) at (way-over .ensures) in
-    let sp : SpanIs (columnOf (getD (args .words .now) ((fields .given .0) .1 .0 + loop .j) 0)) (args .section .now) (loop .p + gapOf (getD (args .words .now) ((fields .given .0) .1 .0 + loop .j) 0)) (span.Bytes (n .given .0 .0)) = rw (n .given .1) at (span-at .ensures) in
-    way-next _ _ _ _ _ _ _ _ _ _ l _ _ (loop .inv) (loop-test .taken) _ refl (has-word .result) (n .given .0 .0) (has-word .ensures .0) (has-word .ensures .1) (sp .0) (sp .1) (sp .2)
+    let sp : SpanIs (columnOf (getD (args .words .now) ((fields .given .0) .1 .0 + loop .j) 0)) (args .section .now) (loop .p + gapOf (getD (args .words .now) ((fields .given .0) .1 .0 + loop .j) 0)) (has-word .result) (span.Bytes (n .given .0 .0)) = rw (n .given .1) at (span-at .ensures) in
+    way-next _ _ _ _ _ _ _ _ _ _ l _ _ (loop .inv) (loop-test .taken) _ refl (has-word .result) (n .given .0 .0) (has-word .ensures .0) (sp .0) (sp .1) (sp .2)
 
 add-end : tie.Need-add-end Inv-loop μ-loop Inv-section μ-section
 add-end c =
@@ -230,9 +209,9 @@ sub-put-row-2 c =
     let fields = c .before .before .before .before .before .before .fields in
     let loop = c .before .before .before .before .loop in
     let loop-test = c .before .before .before .loop-test in
-    let if2 = c .before .before .if2 in
+    let if1 = c .before .before .if1 in
     let l : Led (args .words .now) (eqb (kind .given .0 .0) 3) (slotColumns (args .slots .now) (kind .given .0 .1 .0)) (args .section .now) (kind .given .0 .1 .1 .1 .0) ((fields .given .0) .0) ((fields .given .0) .1 .0) ((fields .given .0) .1 .1 .0) ((fields .given .0) .1 .1 .1 .0) ((fields .given .0) .1 .1 .1 .1 .0) = rw (fields .given .1) at (way-over .ensures) in
-    let ch = change-ended _ _ _ _ _ _ _ _ _ (section .inv) (kind .given .0 .0) (kind .given .0 .1 .0) (kind .given .0 .1 .1 .0) (kind .given .0 .1 .1 .1 .0) (loop .p + (fields .given .0) .1 .1 .1 .0) (sym (head-at .ensures) ∙ ap toldHead (kind .given .1)) (c .before .if3 .taken) (way-ended _ _ _ _ _ _ _ _ _ _ l _ _ (loop .inv) (loop-test .left) (if2 .left)) (omega (arith, loop .inv .behind)) (if2 .left) in
+    let ch = change-ended _ _ _ _ _ _ _ _ _ (section .inv) (kind .given .0 .0) (kind .given .0 .1 .0) (kind .given .0 .1 .1 .0) (kind .given .0 .1 .1 .1 .0) (loop .p + (fields .given .0) .1 .1 .1 .0) (sym (head-at .ensures) ∙ ap toldHead (kind .given .1)) (c .before .if2 .taken) (way-ended _ _ _ _ _ _ _ _ _ _ l _ _ (loop .inv) (loop-test .left) (if1 .left)) (omega (arith, loop .inv .behind)) (if1 .left) in
     omega (arith, ch .0)
 
 cast-put-row-3 : tie.Need-cast-put-row-3 Inv-loop μ-loop Inv-section μ-section
@@ -273,8 +252,8 @@ section-less-2 c =
     let head-at = c .before .before .before .before .before .before .before .before .before .before .before .before .before .before .before .head-at in
     let kind = c .before .before .before .before .before .before .before .before .before .before .before .before .before .kind in
     let loop = c .before .before .before .before .before .before .before .loop in
-    let if2 = c .before .before .before .before .before .if2 in
-    omega (arith, (head-ahead _ _ _ _ _ _ _ _ _ (section .inv) (kind .given .0 .0) (kind .given .0 .1 .0) (kind .given .0 .1 .1 .0) (kind .given .0 .1 .1 .1 .0) (pre .0 .top) (λ i. shared-slice-known .given i .fits) (sym (head-at .ensures) ∙ ap toldHead (kind .given .1))) .behind, loop .inv .behind, if2 .left)
+    let if1 = c .before .before .before .before .before .if1 in
+    omega (arith, (head-ahead _ _ _ _ _ _ _ _ _ (section .inv) (kind .given .0 .0) (kind .given .0 .1 .0) (kind .given .0 .1 .1 .0) (kind .given .0 .1 .1 .1 .0) (pre .0 .top) (λ i. shared-slice-known .given i .fits) (sym (head-at .ensures) ∙ ap toldHead (kind .given .1))) .behind, loop .inv .behind, if1 .left)
 
 section-again-2 : tie.Need-section-again-2 Inv-loop μ-loop Inv-section μ-section
 section-again-2 c =
@@ -286,11 +265,11 @@ section-again-2 c =
     let fields = c .before .before .before .before .before .before .before .before .before .fields in
     let loop = c .before .before .before .before .before .before .before .loop in
     let loop-test = c .before .before .before .before .before .before .loop-test in
-    let if2 = c .before .before .before .before .before .if2 in
-    let if3 = c .before .before .before .before .if3 in
+    let if1 = c .before .before .before .before .before .if1 in
+    let if2 = c .before .before .before .before .if2 in
     let put-row2 = c .before .before .put-row2 in
     let l : Led (args .words .now) (eqb (kind .given .0 .0) 3) (slotColumns (args .slots .now) (kind .given .0 .1 .0)) (args .section .now) (kind .given .0 .1 .1 .1 .0) ((fields .given .0) .0) ((fields .given .0) .1 .0) ((fields .given .0) .1 .1 .0) ((fields .given .0) .1 .1 .1 .0) ((fields .given .0) .1 .1 .1 .1 .0) = rw (fields .given .1) at (way-over .ensures) in
-    let ch = change-ended _ _ _ _ _ _ _ _ _ (section .inv) (kind .given .0 .0) (kind .given .0 .1 .0) (kind .given .0 .1 .1 .0) (kind .given .0 .1 .1 .1 .0) (loop .p + (fields .given .0) .1 .1 .1 .0) (sym (head-at .ensures) ∙ ap toldHead (kind .given .1)) (if3 .taken) (way-ended _ _ _ _ _ _ _ _ _ _ l _ _ (loop .inv) (loop-test .left) (if2 .left)) (omega (arith, loop .inv .behind)) (if2 .left) in
+    let ch = change-ended _ _ _ _ _ _ _ _ _ (section .inv) (kind .given .0 .0) (kind .given .0 .1 .0) (kind .given .0 .1 .1 .0) (kind .given .0 .1 .1 .1 .0) (loop .p + (fields .given .0) .1 .1 .1 .0) (sym (head-at .ensures) ∙ ap toldHead (kind .given .1)) (if2 .taken) (way-ended _ _ _ _ _ _ _ _ _ _ l _ _ (loop .inv) (loop-test .left) (if1 .left)) (omega (arith, loop .inv .behind)) (if1 .left) in
     rw (put-row2 .ensures) (ch .1)
 
 cast-put-row-6 : tie.Need-cast-put-row-6 Inv-loop μ-loop Inv-section μ-section
@@ -340,8 +319,8 @@ section-less-3 c =
     let head-at = c .before .before .before .before .before .before .before .before .before .before .before .before .before .before .before .head-at in
     let kind = c .before .before .before .before .before .before .before .before .before .before .before .before .before .kind in
     let loop = c .before .before .before .before .before .before .before .loop in
-    let if2 = c .before .before .before .before .before .if2 in
-    omega (arith, (head-ahead _ _ _ _ _ _ _ _ _ (section .inv) (kind .given .0 .0) (kind .given .0 .1 .0) (kind .given .0 .1 .1 .0) (kind .given .0 .1 .1 .1 .0) (pre .0 .top) (λ i. shared-slice-known .given i .fits) (sym (head-at .ensures) ∙ ap toldHead (kind .given .1))) .behind, loop .inv .behind, if2 .left)
+    let if1 = c .before .before .before .before .before .if1 in
+    omega (arith, (head-ahead _ _ _ _ _ _ _ _ _ (section .inv) (kind .given .0 .0) (kind .given .0 .1 .0) (kind .given .0 .1 .1 .0) (kind .given .0 .1 .1 .1 .0) (pre .0 .top) (λ i. shared-slice-known .given i .fits) (sym (head-at .ensures) ∙ ap toldHead (kind .given .1))) .behind, loop .inv .behind, if1 .left)
 
 section-again-3 : tie.Need-section-again-3 Inv-loop μ-loop Inv-section μ-section
 section-again-3 c =
@@ -354,11 +333,11 @@ section-again-3 c =
     let fields = c .before .before .before .before .before .before .before .before .before .fields in
     let loop = c .before .before .before .before .before .before .before .loop in
     let loop-test = c .before .before .before .before .before .before .loop-test in
-    let if2 = c .before .before .before .before .before .if2 in
-    let if3 = c .before .before .before .before .if3 in
+    let if1 = c .before .before .before .before .before .if1 in
+    let if2 = c .before .before .before .before .if2 in
     let put-row3 = c .before .before .put-row3 in
     let l : Led (args .words .now) (eqb (kind .given .0 .0) 3) (slotColumns (args .slots .now) (kind .given .0 .1 .0)) (args .section .now) (kind .given .0 .1 .1 .1 .0) ((fields .given .0) .0) ((fields .given .0) .1 .0) ((fields .given .0) .1 .1 .0) ((fields .given .0) .1 .1 .1 .0) ((fields .given .0) .1 .1 .1 .1 .0) = rw (fields .given .1) at (way-over .ensures) in
-    rw (put-row3 .ensures) (row-ended _ _ _ _ _ _ _ _ _ (section .inv) (kind .given .0 .0) (kind .given .0 .1 .0) (kind .given .0 .1 .1 .0) (kind .given .0 .1 .1 .1 .0) (loop .p + (fields .given .0) .1 .1 .1 .0) (pre .0 .top) (sym (head-at .ensures) ∙ ap toldHead (kind .given .1)) (if3 .left) (way-ended _ _ _ _ _ _ _ _ _ _ l _ _ (loop .inv) (loop-test .left) (if2 .left)) (omega (arith, loop .inv .behind)) (if2 .left))
+    rw (put-row3 .ensures) (row-ended _ _ _ _ _ _ _ _ _ (section .inv) (kind .given .0 .0) (kind .given .0 .1 .0) (kind .given .0 .1 .1 .0) (kind .given .0 .1 .1 .1 .0) (loop .p + (fields .given .0) .1 .1 .1 .0) (pre .0 .top) (sym (head-at .ensures) ∙ ap toldHead (kind .given .1)) (if2 .left) (way-ended _ _ _ _ _ _ _ _ _ _ l _ _ (loop .inv) (loop-test .left) (if1 .left)) (omega (arith, loop .inv .behind)) (if1 .left))
 
 same-length : tie.Need-same-length Inv-loop μ-loop Inv-section μ-section
 same-length c =
@@ -402,27 +381,27 @@ returns-3 c =
 
 same-length-4 : tie.Need-same-length-4 Inv-loop μ-loop Inv-section μ-section
 same-length-4 c =
-    let section = c .before .before .before .before .before .before .before .before .before .before .before .before .before .before .before .before .before .section in
+    let section = c .before .before .before .before .before .before .before .before .before .before .before .before .before .before .before .before .section in
     table-long _ _ _ _ _ _ _ _ _ (section .inv)
 
 returns-4 : tie.Need-returns-4 Inv-loop μ-loop Inv-section μ-section
 returns-4 c =
-    let args = c .before .before .before .before .before .before .before .before .before .before .before .before .before .before .before .before .before .before .before .before .args in
-    let pre = c .before .before .before .before .before .before .before .before .before .before .before .before .before .before .before .before .before .before .before .before .pre in
-    let shared-slice-known = c .before .before .before .before .before .before .before .before .before .before .before .before .before .before .before .before .before .before .before .shared-slice-known in
-    let section = c .before .before .before .before .before .before .before .before .before .before .before .before .before .before .before .before .before .section in
-    let head-at = c .before .before .before .before .before .before .before .before .before .before .before .before .before .before .before .before .head-at in
-    let kind = c .before .before .before .before .before .before .before .before .before .before .before .before .before .before .kind in
-    let way-over = c .before .before .before .before .before .before .before .before .before .before .before .before .way-over in
-    let fields = c .before .before .before .before .before .before .before .before .before .before .fields in
-    let loop = c .before .before .before .before .before .before .before .before .loop in
-    let loop-test = c .before .before .before .before .before .before .before .loop-test in
-    let has-word = c .before .before .before .before .before .has-word in
-    let span-at = c .before .before .before .before .span-at in
-    let k = c .before .before .k in
+    let args = c .before .before .before .before .before .before .before .before .before .before .before .before .before .before .before .before .before .before .before .args in
+    let pre = c .before .before .before .before .before .before .before .before .before .before .before .before .before .before .before .before .before .before .before .pre in
+    let shared-slice-known = c .before .before .before .before .before .before .before .before .before .before .before .before .before .before .before .before .before .before .shared-slice-known in
+    let section = c .before .before .before .before .before .before .before .before .before .before .before .before .before .before .before .before .section in
+    let head-at = c .before .before .before .before .before .before .before .before .before .before .before .before .before .before .before .head-at in
+    let kind = c .before .before .before .before .before .before .before .before .before .before .before .before .before .kind in
+    let way-over = c .before .before .before .before .before .before .before .before .before .before .before .way-over in
+    let fields = c .before .before .before .before .before .before .before .before .before .fields in
+    let loop = c .before .before .before .before .before .before .before .loop in
+    let loop-test = c .before .before .before .before .before .before .loop-test in
+    let has-word = c .before .before .before .before .has-word in
+    let span-at = c .before .before .before .span-at in
+    let k = c .before .k in
     let l : Led (args .words .now) (eqb (kind .given .0 .0) 3) (slotColumns (args .slots .now) (kind .given .0 .1 .0)) (args .section .now) (kind .given .0 .1 .1 .1 .0) ((fields .given .0) .0) ((fields .given .0) .1 .0) ((fields .given .0) .1 .1 .0) ((fields .given .0) .1 .1 .1 .0) ((fields .given .0) .1 .1 .1 .1 .0) = rw (fields .given .1) at (way-over .ensures) in
-    let sp : SpanIs (columnOf (getD (args .words .now) ((fields .given .0) .1 .0 + loop .j) 0)) (args .section .now) (loop .p + gapOf (getD (args .words .now) ((fields .given .0) .1 .0 + loop .j) 0)) (span.Refused (k .given .0 .0)) = rw (k .given .1) at (span-at .ensures) in
-    scanned-refused _ _ _ _ _ _ (data-refused _ _ _ _ _ _ _ _ _ (section .inv) (kind .given .0 .0) (kind .given .0 .1 .0) (kind .given .0 .1 .1 .0) (kind .given .0 .1 .1 .1 .0) (sym (head-at .ensures) ∙ ap toldHead (kind .given .1)) ((head-ahead _ _ _ _ _ _ _ _ _ (section .inv) (kind .given .0 .0) (kind .given .0 .1 .0) (kind .given .0 .1 .1 .0) (kind .given .0 .1 .1 .1 .0) (pre .0 .top) (λ i. shared-slice-known .given i .fits) (sym (head-at .ensures) ∙ ap toldHead (kind .given .1))) .number) (way-refused _ _ _ _ _ _ _ _ _ _ l _ _ (loop .inv) (loop-test .taken) _ refl (k .given .0 .0) (has-word .result) (has-word .ensures .0) (c .if1 .taken) sp))
+    let sp : SpanIs (columnOf (getD (args .words .now) ((fields .given .0) .1 .0 + loop .j) 0)) (args .section .now) (loop .p + gapOf (getD (args .words .now) ((fields .given .0) .1 .0 + loop .j) 0)) (has-word .result) (span.Refused (k .given .0 .0)) = rw (k .given .1) at (span-at .ensures) in
+    scanned-refused _ _ _ _ _ _ (data-refused _ _ _ _ _ _ _ _ _ (section .inv) (kind .given .0 .0) (kind .given .0 .1 .0) (kind .given .0 .1 .1 .0) (kind .given .0 .1 .1 .1 .0) (sym (head-at .ensures) ∙ ap toldHead (kind .given .1)) ((head-ahead _ _ _ _ _ _ _ _ _ (section .inv) (kind .given .0 .0) (kind .given .0 .1 .0) (kind .given .0 .1 .1 .0) (kind .given .0 .1 .1 .1 .0) (pre .0 .top) (λ i. shared-slice-known .given i .fits) (sym (head-at .ensures) ∙ ap toldHead (kind .given .1))) .number) (way-refused _ _ _ _ _ _ _ _ _ _ l _ _ (loop .inv) (loop-test .taken) _ refl (k .given .0 .0) (has-word .result) (has-word .ensures .0) (sp .0) (sp .1)))
 
 same-length-5 : tie.Need-same-length-5 Inv-loop μ-loop Inv-section μ-section
 same-length-5 c =
@@ -441,7 +420,7 @@ returns-5 c =
     let fields = c .before .before .before .before .fields in
     let loop = c .before .before .loop in
     let l : Led (args .words .now) (eqb (kind .given .0 .0) 3) (slotColumns (args .slots .now) (kind .given .0 .1 .0)) (args .section .now) (kind .given .0 .1 .1 .1 .0) ((fields .given .0) .0) ((fields .given .0) .1 .0) ((fields .given .0) .1 .1 .0) ((fields .given .0) .1 .1 .1 .0) ((fields .given .0) .1 .1 .1 .1 .0) = rw (fields .given .1) at (way-over .ensures) in
-    scanned-refused _ _ _ _ _ _ (data-refused _ _ _ _ _ _ _ _ _ (section .inv) (kind .given .0 .0) (kind .given .0 .1 .0) (kind .given .0 .1 .1 .0) (kind .given .0 .1 .1 .1 .0) (sym (head-at .ensures) ∙ ap toldHead (kind .given .1)) ((head-ahead _ _ _ _ _ _ _ _ _ (section .inv) (kind .given .0 .0) (kind .given .0 .1 .0) (kind .given .0 .1 .1 .0) (kind .given .0 .1 .1 .1 .0) (pre .0 .top) (λ i. shared-slice-known .given i .fits) (sym (head-at .ensures) ∙ ap toldHead (kind .given .1))) .number) (way-short _ _ _ _ _ _ _ _ _ _ l _ _ (loop .inv) (c .before .loop-test .left) (c .if2 .taken)))
+    scanned-refused _ _ _ _ _ _ (data-refused _ _ _ _ _ _ _ _ _ (section .inv) (kind .given .0 .0) (kind .given .0 .1 .0) (kind .given .0 .1 .1 .0) (kind .given .0 .1 .1 .1 .0) (sym (head-at .ensures) ∙ ap toldHead (kind .given .1)) ((head-ahead _ _ _ _ _ _ _ _ _ (section .inv) (kind .given .0 .0) (kind .given .0 .1 .0) (kind .given .0 .1 .1 .0) (kind .given .0 .1 .1 .1 .0) (pre .0 .top) (λ i. shared-slice-known .given i .fits) (sym (head-at .ensures) ∙ ap toldHead (kind .given .1))) .number) (way-short _ _ _ _ _ _ _ _ _ _ l _ _ (loop .inv) (c .before .loop-test .left) (c .if1 .taken)))
 
 pub scan-spec : {M : Type 1} → statement M
 scan-spec =
@@ -476,14 +455,10 @@ scan-spec =
     span-at-requires
     (λ c. search needs)
     (λ c. search needs)
-    (λ c. search needs)
-    loop-again
-    (λ c. search needs)
-    mul-p
     add-p
     (λ c. search needs)
     (λ c. search needs)
-    loop-again-2
+    loop-again
     add-end
     sub-put-row-2
     cast-put-row-3
