@@ -1,28 +1,32 @@
 -- The examples of document 01 that are to be proved: calls, and what the paper says that they answer.
 -- Assumes nothing.
 use Prim.Native.Nat.{ℕ}
-use mathlib.Core.List.{List, [], _∷_}
+use mathlib.Core.List.{List, [], _∷_, map}
 use Rattle.wire.specs.Read.{Bytes, Read, ok, bad}
 use Rattle.header.specs.declared.header.Header.{Header}
 use Rattle.header.specs.Header.{headerOf}
 use Rattle.schema.specs.Schemas.{Entry, entry, Schema, schema, readSchemas}
 use Rattle.row.specs.Rows.{Answer, field, null, chapter}
+use Rattle.grammar.specs.Grammar.{Row}
+use Rattle.section.specs.Table.{rowNumbers, rowsRead}
 use Rattle.adtg.specs.Rows.{lookUpIn}
 
--- a call with its inputs
+-- a call with its inputs; of a table for rows, how many numbers it holds
 pub data Call : Type 0 where
   readHeader : Bytes → Call
   readSchema : Bytes → Call
   lookUp : (file row : Bytes) (column : ℕ) → Call
+  readRows : (file section : Bytes) (table : ℕ) → Call
 
 -- an answer in the paper's words: where a piece ends, the columns of the top schema, a field by its two ends and its prefixes, null, a
--- chapter, or an error by its number and place
+-- chapter, rows by their numbers in the table, or an error by its number and place
 pub data Said : Type 0 where
   endsAt : ℕ → Said
   columnsAre : List Entry → Said
   fieldAt : (start end prefixes : ℕ) → Said
   isNull : Said
   isChapter : Said
+  rowsAre : List (List ℕ) → Said
   refusedAt : ℕ → ℕ → Said
 
 abbrev pub sayEnd : Read Header → Said
@@ -43,11 +47,16 @@ sayField (ok null) = isNull
 sayField (ok chapter) = isChapter
 sayField (bad code offset about) = refusedAt code offset
 
+abbrev pub sayRows : Read (List Row) → Said
+sayRows (ok rows) = rowsAre (map rowNumbers rows)
+sayRows (bad code offset about) = refusedAt code offset
+
 -- what the definitions answer to a call
 abbrev pub answerTo : Call → Said
 answerTo (readHeader bytes) = sayEnd (headerOf bytes)
 answerTo (readSchema bytes) = sayColumns (readSchemas bytes)
 answerTo (lookUp file row column) = sayField (lookUpIn file 0 row column)
+answerTo (readRows file section table) = sayRows (rowsRead file section table)
 
 pub record Example : Type 0 where
   pub call : Call
@@ -73,6 +82,19 @@ cutOff = 0xC0 ∷ 0x05 ∷ 0x00 ∷ 0x00 ∷ 0x00 ∷ []
 abbrev pub oddText : Bytes
 oddText = 0xC0 ∷ 0x05 ∷ 0x00 ∷ 0x00 ∷ 0x00 ∷ 0x03 ∷ []
 
+-- Sheet T of the paper: a four-byte integer; a chapter with id 7, whose schema is a byte
+abbrev pub T : Bytes
+T = 0x02 ∷ 0x03 ∷ 0x00 ∷ 0x88 ∷ 0x01 ∷ 0x00 ∷ 0x07 ∷ 0x01 ∷ 0x11 ∷ 0x00 ∷ []
+
+-- the section under T, with this id and these maps in its 8A
+abbrev pub sectionWith : (id update force : ℕ) → Bytes
+sectionWith id update force =
+    0x07 ∷ 0x05 ∷ 0x00 ∷ 0x00 ∷ 0x00 ∷ 0x87 ∷ 0x07 ∷ 0x00 ∷ 0x00 ∷ 0x00 ∷ 0x2A ∷ 0x8A ∷ id ∷ 0x00 ∷ 0x00 ∷ 0x00 ∷ update ∷ force ∷ 0x2B ∷ 0x0F ∷ []
+
+-- as the paper has it
+abbrev pub sectionT : Bytes
+sectionT = sectionWith 0x07 0x80 0x00
+
 -- the list, in the paper's order
 unfoldable pub examples : List Example
 examples =
@@ -88,4 +110,10 @@ examples =
     ∷ example (lookUp S cutOff 0) (fieldAt 1 5 0)
     ∷ example (lookUp S cutOff 2) (refusedAt 1 5)
     ∷ example (lookUp S oddText 1) (refusedAt 14 5)
+    ∷ example (readRows S (0x0F ∷ []) 0) (rowsAre [])
+    ∷ example (readRows S (0x0F ∷ 0x0F ∷ []) 0) (refusedAt 15 1)
+    ∷ example (readRows T sectionT 8) (rowsAre ((1 ∷ 0 ∷ 1 ∷ 0 ∷ []) ∷ (3 ∷ 7 ∷ 10 ∷ 16 ∷ []) ∷ []))
+    ∷ example (readRows T sectionT 7) (refusedAt 16 2)
+    ∷ example (readRows T (sectionWith 0x08 0x80 0x00) 8) (refusedAt 11 11)
+    ∷ example (readRows T (sectionWith 0x07 0x00 0x80) 8) (refusedAt 13 17)
     ∷ []
