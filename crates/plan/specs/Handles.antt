@@ -6,7 +6,7 @@ use Rattle.wire.specs.declared.error.Input.the-variants as input
 use Rattle.wire.specs.Read.{Bytes, Read, _>>=_, pick, about, sized}
 use Rattle.row.specs.Rows.{Answer}
 use Rattle.plan.specs.declared.plan.Plan.{Plan}
-use Rattle.plan.specs.Plans.{plannedKnown, plannedOpen, plannedAnswer, plannedRow}
+use Rattle.plan.specs.Plans.{plannedMap, plannedKnown, plannedOpen, plannedAnswer, plannedRow}
 
 -- Opening a row for a handle: its size (19), its map (1), its chapters' bits (12). Where its data start.
 unfoldable pub openedRow : Plan → Bytes → Read ℕ
@@ -23,4 +23,4 @@ openedLookUp p row k = do
 
 -- A look-up through a handle with this start: where it is the plan's, the row counts as opened; else the look-up is the direct one.
 unfoldable pub handled : Plan → (start : ℕ) → Bytes → ℕ → Read Answer
-handled p start row k = pick (eqb start (p .map)) (openedLookUp p row k) (plannedRow p row k)
+handled p start row k = pick (eqb start (plannedMap p)) (openedLookUp p row k) (plannedRow p row k)
