@@ -2,7 +2,7 @@
 -- Assumes nothing.
 use Prim.Native.Nat.{ℕ, zero, suc, _+_, _*_, _-_, _/_, _%_, _≤_, _<_}
 use mathlib.Core.List.{List, [], _∷_}
-use mathlib.Core.Bool.{Bool, true, false}
+use mathlib.Core.Bool.{Bool, true, false, true≢false}
 use mathlib.Core.Path.{_≡_, refl, sym, ap, _∙_}
 use native.Mathlib.Omega.{arith}
 use lib.ListN.{length, getD}
@@ -15,11 +15,12 @@ use Rattle.wire.specs.Bits.{bitSet}
 use Rattle.wire.specs.Integers.{readInt}
 use Rattle.column.specs.declared.column.Column.{Column}
 use Rattle.column.specs.declared.field.Field.{Field}
-use Rattle.column.specs.declared.types.Kind.the-variants.{Variable, Wide}
-use Rattle.column.specs.Types.{types, kindIn, kindOf}
+use Rattle.column.specs.declared.types.Kind.{Kind}
+use Rattle.column.specs.declared.types.Kind.the-variants.{Fixed, Variable, Wide, Chapter, Unknown}
+use Rattle.column.specs.Types.{types, kindIn, kindOf, variableKind, chapterKind}
 use Rattle.column.specs.Columns.{kind, isChapter, isNullable, isVariable, prefixSize, lengthError}
 use Rattle.column.specs.Fields.{field as bytes, bytesAt, variableAt}
-use Rattle.column.proofs.Laws.{wide-code, wide-over, length-told, prefix-variable, bytes-short, bytes-fit, variable-short, variable-long, variable-bytes, field-variable, field-told}
+use Rattle.column.proofs.Laws.{int-inside, wide-code, wide-over, length-told, prefix-variable, bytes-short, bytes-fit, variable-refused, variable-long, variable-bytes, field-variable, field-told}
 use Rattle.row.specs.Presence.{one, mark, present}
 use Rattle.row.specs.Rows.{Place, place, past}
 use Rattle.row.specs.declared.rows.WalkRead.{WalkRead}
@@ -27,7 +28,7 @@ use Rattle.row.specs.declared.rows.WalkRead.the-variants as walk
 use Rattle.plan.specs.declared.plan.Plan.{Plan}
 use Rattle.plan.specs.Packed.{unpacked, bitIn, widthIn, tabled}
 use Rattle.plan.specs.Plans.{isStop, plannedWord, plannedColumn, plannedGap, passedVariable, passed, visit, visits, unset}
-use Rattle.plan.specs.Lent.{Near, endOf}
+use Rattle.plan.specs.Lent.{Near, endOf, lengthOf}
 use Rattle.plan.proofs.Packed.{tabled-end, tabled-next}
 
 -- the kinds of the types of variable length
@@ -58,6 +59,20 @@ module _ (c : Column) where
   pub stop-plain : isChapter c ≡ false → isNullable c ≡ false → isStop c ≡ isVariable c
   unfolding isStop
   stop-plain e n = rw (e, n)
+
+  -- every column of variable length is one
+  pub stop-variable : isVariable c ≡ true → isStop c ≡ true
+  unfolding isStop
+  stop-variable v = go (kind c) (isNullable c) v
+    where
+      go : (k : Kind) (n : Bool) → variableKind k ≡ true → pick (chapterKind k) false (pick n true (variableKind k)) ≡ true
+      go (Fixed w) n e = absurd (true≢false (sym e))
+      go Variable true e = refl
+      go Variable false e = refl
+      go Wide true e = refl
+      go Wide false e = refl
+      go Chapter n e = absurd (true≢false (sym e))
+      go Unknown n e = absurd (true≢false (sym e))
 
 -- Fields of variable length.
 
@@ -92,17 +107,37 @@ module _ (c : Column) (v : isVariable c ≡ true) where
     allowed-plain e = small (leb n (c .maximum)) ∙ ap (λ (k : ℕ). eqb k 0) (length-told c n (kind-plain e) refl refl)
 
 module _ (c : Column) (row : Bytes) (at : ℕ) where
-  -- where one ends that is refused
-  pub end-short : length row < at + prefixSize c → 0 ≡ endOf (variableAt c row at)
-  end-short h = ap endOf (sym (variable-short c row at h))
+  -- what was read as its length
+  abbrev read : Read ℕ
+  read = readInt row at (prefixSize c)
 
-  module _ (n : ℕ) (h : ok n ≡ readInt row at (prefixSize c)) where
-    pub end-long : eqb (lengthError c n) 0 ≡ false → 0 ≡ endOf (variableAt c row at)
-    end-long e = ap endOf (sym (variable-long c row at n (sym h) (eqb-false _ _ e)))
+  -- where one ends whose length is not allowed, or not there
+  pub end-long : eqb (lengthError c (lengthOf read)) 0 ≡ false → 0 ≡ endOf (variableAt c row at)
+  end-long e = go read refl e
+    where
+      go : (r : Read ℕ) → read ≡ r → eqb (lengthError c (lengthOf r)) 0 ≡ false → 0 ≡ endOf (variableAt c row at)
+      go (ok n) h e = ap endOf (sym (variable-long c row at n h (eqb-false _ _ e)))
+      go (bad k o i) h e = ap endOf (sym (variable-refused c row at k o i h))
+
+  -- a length that can be allowed was read
+  length-read : lengthOf read < 131072 → read ≡ ok (lengthOf read)
+  length-read h = go read h
+    where
+      go : (r : Read ℕ) → lengthOf r < 131072 → r ≡ ok (lengthOf r)
+      go (ok n) h = refl
+      go (bad k o i) h = absurd (omega arith)
+
+  module _ (n : ℕ) (h : n ≡ lengthOf read) (l : n < 131072) where
+    told-read : read ≡ ok n
+    told-read = length-read (omega arith) ∙ ap ok (sym h)
+
+    -- its prefix is in the row
+    pub end-prefix : at + prefixSize c ≤ length row
+    end-prefix = int-inside row at (prefixSize c) n told-read
 
     module _ (e : eqb (lengthError c n) 0 ≡ true) where
       told-end : endOf (variableAt c row at) ≡ endOf (bytesAt row (at + prefixSize c) n 1)
-      told-end = ap endOf (variable-bytes c row at n (sym h) (eqb-true _ _ e))
+      told-end = ap endOf (variable-bytes c row at n told-read (eqb-true _ _ e))
 
       pub end-cut : length row < at + prefixSize c + n → 0 ≡ endOf (variableAt c row at)
       end-cut l = sym (told-end ∙ ap endOf (bytes-short row (at + prefixSize c) n 1 l))

@@ -38,6 +38,11 @@ abbrev pub endOf : Read Field → ℕ
 endOf (ok f) = f .end
 endOf (bad code offset single) = 0
 
+-- a length that was read; more than any column allows for an error
+abbrev pub lengthOf : Read ℕ → ℕ
+lengthOf (ok n) = n
+lengthOf (bad code offset single) = 4294967296
+
 -- what a look-up answers by the field at a place
 abbrev pub foundIn : Place → Read Field → Read Answer
 foundIn w (ok f) = ok (field (reached w f))

@@ -4,7 +4,7 @@ ghost use mathlib.Core.Bool.{true};
 ghost use Prim.Native.Nat.{_≤_, _<_, _+_};
 ghost use lib.ListN.{length};
 ghost use lib.Dec.{eqb};
-ghost use Rattle.wire.specs.Read.{ok, toldMatch, about};
+ghost use Rattle.wire.specs.Read.{toldMatch, about};
 ghost use Rattle.wire.specs.Integers.{readInt, toldInt};
 ghost use Rattle.wire.specs.declared.error.Input.the-variants as input;
 ghost use Rattle.wire.specs.declared.integer.IntRead.the-variants as int;
@@ -16,9 +16,9 @@ ghost use Rattle.row.specs.declared.rows.LookUp.the-variants as look;
 ghost use Rattle.row.specs.Parts.{partOf};
 ghost use Rattle.row.specs.Told.{toldWalk, toldLookUp};
 ghost use Rattle.plan.specs.Packed.{stopIn, markedIn, tabled};
-ghost use Rattle.plan.specs.Plans.{isStop, plannedList, fieldIn, passed, passedVariable, visit, visits, jumped, unset, plannedOpen, plannedAnswer, plannedRow};
+ghost use Rattle.plan.specs.Plans.{isStop, plannedList, fieldIn, passedVariable, visit, visits, jumped, unset, plannedOpen, plannedAnswer, plannedRow};
 ghost use Rattle.plan.specs.Handles.{openedRow, handled};
-ghost use Rattle.plan.specs.Lent.{lent, Near, Small, Lies, endOf, foundIn, asked, openedFor, startChecked};
+ghost use Rattle.plan.specs.Lent.{lent, Near, Small, Lies, endOf, lengthOf, foundIn, asked, openedFor, startChecked};
 use crate::bit_in;
 use crate::column_in;
 use crate::gap_in;
@@ -28,7 +28,7 @@ use crate::width_in;
 use column::column::Column;
 use column::field::Field;
 use column::field::FieldRead;
-use column::field::variable_at;
+use column::field::field_at;
 use column::types::ColumnType;
 use row::rows::LookUp;
 use row::rows::WalkRead;
@@ -59,7 +59,7 @@ pub fn is_stop(column: Column) -> bool
 
 // Whether a field of a column of variable length may have this length.
 fn allows(column: Column, length: usize) -> bool
-    ensures { λ r. ⌜ (isVariable column ≡ true → r ≡ eqb (lengthError column length) 0) ⌝ }
+    ensures { λ r. ⌜ (isVariable column ≡ true → r ≡ eqb (lengthError column length) 0) × (r ≡ true → length < 131072) ⌝ }
 {
     let maximum = column.maximum as usize;
     if column.code == ColumnType::WSTR {
@@ -71,13 +71,18 @@ fn allows(column: Column, length: usize) -> bool
     length <= maximum
 }
 
-// The length in front of a field of variable length, which is there.
+// The length in front of a field of variable length; more than any column allows where it is not there.
 fn length_in(column: Column, row: &[u8], at: usize) -> usize
-    requires { ⌜ at + prefixSize column ≤ length (now row) ⌝ }
-    ensures { λ r. ⌜ ok r ≡ readInt (now (row .entry)) at (prefixSize column) ⌝ }
+    ensures { λ r. ⌜ r ≡ lengthOf (readInt (now (row .entry)) at (prefixSize column)) ⌝ }
 {
     if column.maximum < 256 {
+        if row.len() <= at {
+            return 4294967296;
+        }
         return wide(row[at]);
+    }
+    if lacks(row.len(), at, 4) {
+        return 4294967296;
     }
     wide(row[at]) + 256 * (wide(row[at + 1]) + 256 * (wide(row[at + 2]) + 256 * wide(row[at + 3])))
 }
@@ -88,13 +93,9 @@ fn variable_end(column: Column, row: &[u8], at: usize) -> usize
     requires { ⌜ isVariable column ≡ true ⌝ }
     ensures { λ r. ⌜ r ≡ endOf (variableAt column (now (row .entry)) at) ⌝ }
 {
-    let size = column.prefix_size();
-    if lacks(row.len(), at, size) {
-        return 0;
-    }
     let length = length_in(column, row, at);
     if allows(column, length) {
-        let start = at + size;
+        let start = at + column.prefix_size();
         if row.len() - start < length {
             return 0;
         }
@@ -117,7 +118,7 @@ fn pass_variable(column: Column, bit: usize, row: &[u8], at: usize, prefixes: us
                 prefixes: prefixes + 1,
             };
         }
-        return match variable_at(column, row, at) {
+        return match field_at(column, row, at) {
             FieldRead::Refused(e) => WalkRead::Refused(e),
             FieldRead::Found(f) => WalkRead::At {
                 position: f.end,
@@ -127,22 +128,6 @@ fn pass_variable(column: Column, bit: usize, row: &[u8], at: usize, prefixes: us
     }
     WalkRead::At {
         position: at,
-        prefixes: prefixes,
-    }
-}
-
-// Past the stop that a plan holds as this number.
-fn pass(word: usize, row: &[u8], at: usize, prefixes: usize) -> WalkRead
-    requires { ⌜ (at ≤ 8589934592) × (prefixes ≤ 64) ⌝ }
-    ensures answers { λ r. ⌜ toldWalk r ≡ passed word (now (row .entry)) (place at prefixes) ⌝ }
-    ensures near { λ r. ⌜ Near (length (now (row .entry)) + at + 255) prefixes r ⌝ }
-{
-    let column = column_in(word);
-    if column.is_variable() {
-        return pass_variable(column, bit_in(word), row, at, prefixes);
-    }
-    WalkRead::At {
-        position: at + width_in(word) * one(is_set(row, bit_in(word))),
         prefixes: prefixes,
     }
 }
@@ -162,8 +147,15 @@ fn visit(
 {
     if i < k {
         let word = plan[i];
-        if is_stop(column_in(word)) {
-            return pass(word, row, at + gap_in(word), prefixes);
+        let column = column_in(word);
+        if column.is_variable() {
+            return pass_variable(column, bit_in(word), row, at + gap_in(word), prefixes);
+        }
+        if is_stop(column) {
+            return WalkRead::At {
+                position: at + gap_in(word) + width_in(word) * one(is_set(row, bit_in(word))),
+                prefixes: prefixes,
+            };
         }
         return WalkRead::At {
             position: at,
@@ -248,7 +240,7 @@ fn find_variable(column: Column, row: &[u8], at: usize, prefixes: usize) -> Look
             prefixes: prefixes + 1,
         });
     }
-    match variable_at(column, row, at) {
+    match field_at(column, row, at) {
         FieldRead::Refused(e) => about_row(e),
         FieldRead::Found(f) => LookUp::Found(Field {
             start: f.start,

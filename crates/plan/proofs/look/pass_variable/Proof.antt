@@ -25,20 +25,20 @@ add-t14 : tie.Need-add-t14
 add-t14 c =
     let args = c .before .before .before .before .before .before .before .before .before .before .args in
     let pre = c .before .before .before .before .before .before .before .before .before .before .pre in
-    let variable-at = c .before .before .before .before .variable-at in
+    let field-at = c .before .before .before .before .field-at in
     let f = c .before .before .f in
-    let g = sym (variable-at .ensures) ∙ ap toldField (f .given .1) in
-    let r = field-variable (args .column) (args .row .now) (args .at) (pre .0) ∙ g in
-    let q = few-prefixes _ (args .row .now) _ r in
+    let g = sym (field-at .ensures) ∙ ap toldField (f .given .1) in
+    let q = few-prefixes _ (args .row .now) _ g in
     omega (arith, q, pre .1)
 
 returns-2 : tie.Need-returns-2
 returns-2 c =
     let args = c .before .before .before .before .before .before .before .before .before .args in
+    let pre = c .before .before .before .before .before .before .before .before .before .pre in
     let is-present = c .before .before .before .before .before .before .before .is-present in
     let if1 = c .before .before .before .before .before .before .if1 in
-    let variable-at = c .before .before .before .variable-at in
-    (sym (variable-bad (args .column) (args .bit) (args .row .now) (place (args .at) (args .prefixes)) (sym (is-present .ensures) ∙ if1 .taken) (sym (variable-at .ensures) ∙ ap toldField (c .before .e .given .1))), tt)
+    let field-at = c .before .before .before .field-at in
+    (sym (variable-bad (args .column) (args .bit) (args .row .now) (place (args .at) (args .prefixes)) (sym (is-present .ensures) ∙ if1 .taken) (sym (field-variable (args .column) (args .row .now) (args .at) (pre .0)) ∙ sym (field-at .ensures) ∙ ap toldField (c .before .e .given .1))), tt)
 
 returns-3 : tie.Need-returns-3
 returns-3 c =
@@ -46,13 +46,12 @@ returns-3 c =
     let pre = c .before .before .before .before .before .before .before .before .before .before .pre in
     let is-present = c .before .before .before .before .before .before .before .before .is-present in
     let if1 = c .before .before .before .before .before .before .before .if1 in
-    let variable-at = c .before .before .before .before .variable-at in
+    let field-at = c .before .before .before .before .field-at in
     let f = c .before .before .f in
-    let g = sym (variable-at .ensures) ∙ ap toldField (f .given .1) in
-    let r = field-variable (args .column) (args .row .now) (args .at) (pre .0) ∙ g in
-    let q = few-prefixes _ (args .row .now) _ r in
-    let b = field-told (args .column) (args .row .now) (args .at) r in
-    (sym (variable-past (args .column) (args .bit) (args .row .now) (place (args .at) (args .prefixes)) (sym (is-present .ensures) ∙ if1 .taken) g), (omega (arith, b .ends), omega (arith, q)))
+    let g = sym (field-at .ensures) ∙ ap toldField (f .given .1) in
+    let q = few-prefixes _ (args .row .now) _ g in
+    let b = field-told (args .column) (args .row .now) (args .at) g in
+    (sym (variable-past (args .column) (args .bit) (args .row .now) (place (args .at) (args .prefixes)) (sym (is-present .ensures) ∙ if1 .taken) (sym (field-variable (args .column) (args .row .now) (args .at) (pre .0)) ∙ g)), (omega (arith, b .ends), omega (arith, q)))
 
 returns-4 : tie.Need-returns-4
 returns-4 c =
