@@ -31,6 +31,9 @@ const FROM_UPDATE: u64 = 2;
 const FIXED: u64 = 1;
 const NOT_FIXED: u64 = 2;
 
+/// The start of a row that was not opened.
+const NOT_OPENED: usize = usize::MAX;
+
 /// What making a plan replies.
 #[repr(C)]
 #[derive(Clone, Copy)]
@@ -199,18 +202,12 @@ extern "C" {
     fn adtg_fixed_place(plan: PlanNumbers, column: usize, out: *mut Out) -> u32;
     fn adtg_planned_look_up(
         plan: *const PlanNumbers,
-        row: *const u8,
-        row_len: usize,
-        column: usize,
-    ) -> Found;
-    fn adtg_open_row(plan: PlanNumbers, row: *const u8, row_len: usize, out: *mut Out) -> u32;
-    fn adtg_open_look_up(
-        plan: *const PlanNumbers,
         start: usize,
         row: *const u8,
         row_len: usize,
         column: usize,
     ) -> Found;
+    fn adtg_open_row(plan: PlanNumbers, row: *const u8, row_len: usize, out: *mut Out) -> u32;
 }
 
 /// Why a call of the archive gave no answer.
@@ -593,7 +590,7 @@ pub fn fixed_place(plan: &PlanNumbers, column: usize) -> Reply<Option<usize>> {
 #[inline]
 pub fn planned_look_up(plan: &PlanNumbers, row: &[u8], column: usize) -> Found {
     // SAFETY: as in `read_header`, for the row; the plan has as many numbers as agreed.
-    unsafe { adtg_planned_look_up(plan, row.as_ptr(), row.len(), column) }
+    unsafe { adtg_planned_look_up(plan, NOT_OPENED, row.as_ptr(), row.len(), column) }
 }
 
 /// Opens a row for the archive: where its data start.
@@ -608,7 +605,7 @@ pub fn open_row(plan: &PlanNumbers, row: &[u8]) -> Reply<usize> {
 #[inline]
 pub fn open_look_up(plan: &PlanNumbers, start: usize, row: &[u8], column: usize) -> Found {
     // SAFETY: as in `planned_look_up`.
-    unsafe { adtg_open_look_up(plan, start, row.as_ptr(), row.len(), column) }
+    unsafe { adtg_planned_look_up(plan, start, row.as_ptr(), row.len(), column) }
 }
 
 impl Found {

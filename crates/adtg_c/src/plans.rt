@@ -1,7 +1,8 @@
 // Plans: made and compared with a schema file, places, and look-up through a plan. A look-up is lent the numbers of the plan, so that
 // no call copies them.
 ghost use mathlib.Core.Path.{_≡_};
-ghost use Rattle.wire.specs.Read.{refused, toldMatch};
+ghost use Prim.Native.Nat.{_<_};
+ghost use Rattle.wire.specs.Read.{toldMatch, limit};
 ghost use Rattle.row.specs.Told.{toldLookUp};
 ghost use Rattle.plan.specs.Plans.{plannedRow, fixedPlace};
 ghost use Rattle.plan.specs.Handles.{openedRow, handled};
@@ -19,14 +20,11 @@ use adtg::plans::make_plan;
 use plan::fixed::PlaceRead;
 use plan::fixed::fixed_place;
 use plan::look::from_lent;
-use plan::look::open_for;
 use plan::look::open_row;
 use plan::plan::Plan;
 use row::rows::LookUp;
 use schema::file::Found;
 use wire::bytes::Matched;
-use wire::error::Error;
-use wire::integer::IntRead;
 
 // A plan that was made, or the error with the blank plan beside it.
 #[repr(C)]
@@ -134,21 +132,6 @@ pub extern "C" fn adtg_open_row(plan: Plan, row: &[u8], out: &mut [u64; 16]) -> 
     answer_int(open_row(plan, row), out)
 }
 
-// A refusal, as a value.
-fn refused_answer(e: Error) -> FoundAnswer
-    ensures { λ r. ⌜ r ≡ foundAnswer (refused e) ⌝ }
-{
-    let kind = e.kind;
-    let input = e.input;
-    FoundAnswer {
-        code: kind.code(),
-        kind: 0,
-        first: e.offset as u64,
-        second: input.number(),
-        prefixes: 0,
-    }
-}
-
 // The answer of a look-up, as a value.
 fn found_answer(answer: LookUp) -> FoundAnswer
     ensures { λ r. ⌜ r ≡ foundAnswer (toldLookUp answer) ⌝ }
@@ -175,34 +158,31 @@ fn found_answer(answer: LookUp) -> FoundAnswer
             second: 0,
             prefixes: 0,
         },
-        LookUp::Refused(e) => refused_answer(e),
+        LookUp::Refused(e) => {
+            let kind = e.kind;
+            let input = e.input;
+            FoundAnswer {
+                code: kind.code(),
+                kind: 0,
+                first: e.offset as u64,
+                second: input.number(),
+                prefixes: 0,
+            }
+        }
     }
 }
 
-// What a row that was opened at `start` has at a column, by a plan whose numbers are lent.
+// What a row that was opened at `start` has at a column, by a plan whose numbers are lent. A start over the limit of a row's size is
+// that of a row that was not opened.
 #[no_mangle]
-pub extern "C" fn adtg_open_look_up(
+pub extern "C" fn adtg_planned_look_up(
     plan: &[usize; 131],
     start: usize,
     row: &[u8],
     column: usize,
 ) -> FoundAnswer
-    ensures { λ r. ⌜ r ≡ foundAnswer (handled (lent (now (plan .entry))) start (now (row .entry)) column) ⌝ }
+    ensures opened { λ r. ⌜ r ≡ foundAnswer (handled (lent (now (plan .entry))) start (now (row .entry)) column) ⌝ }
+    ensures direct { λ r. ⌜ (limit < start → r ≡ foundAnswer (plannedRow (lent (now (plan .entry))) (now (row .entry)) column)) ⌝ }
 {
     found_answer(from_lent(plan, start, row, column))
-}
-
-// What a row has at a column. It is opened and then looked up as an opened one by the call above, whose code stands once.
-#[no_mangle]
-pub extern "C" fn adtg_planned_look_up(
-    plan: &[usize; 131],
-    row: &[u8],
-    column: usize,
-) -> FoundAnswer
-    ensures { λ r. ⌜ r ≡ foundAnswer (plannedRow (lent (now (plan .entry))) (now (row .entry)) column) ⌝ }
-{
-    match open_for(plan, row, column) {
-        IntRead::Refused(e) => refused_answer(e),
-        IntRead::Int(start) => adtg_open_look_up(plan, start, row, column),
-    }
 }

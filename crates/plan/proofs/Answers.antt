@@ -5,7 +5,8 @@ use mathlib.Core.Bool.{true, false}
 use mathlib.Core.Path.{_≡_, refl, sym, ap, _∙_}
 use native.Mathlib.Omega.{arith}
 use lib.ListN.{length, getD}
-use borrow.Author.Tests.{lt-ltb, le-ltb, ltb-true, leb-true, eq-eqb, ne-eqb}
+use lib.Dec.{eqb}
+use borrow.Author.Tests.{lt-ltb, le-ltb, ltb-true, leb-true, lt-leb, le-leb}
 use Rattle.wire.specs.declared.error.Input.{Input}
 use Rattle.wire.specs.declared.error.Input.the-variants as input
 use Rattle.wire.specs.Read.{Bytes, Read, ok, bad, _>>=_, pick, check, about, sizedBy, sized, limit}
@@ -21,7 +22,8 @@ use Rattle.row.specs.Rows.{Place, place, reached, field, null, chapter}
 use Rattle.plan.specs.declared.plan.Plan.{Plan}
 use Rattle.plan.specs.Packed.{unpacked, widthIn}
 use Rattle.plan.specs.Plans.{plannedWord, plannedColumn, plannedMark, plannedGap, plannedMap, plannedMarked, fieldIn, visits, stopsTo, jumped, landed, unset, plannedOpen, plannedAnswer}
-use Rattle.plan.specs.Lent.{foundIn, asked, openedFor, startChecked}
+use Rattle.plan.specs.Handles.{countsOpened}
+use Rattle.plan.specs.Lent.{foundIn, asked, startChecked}
 
 -- The ways out of the way to column k.
 
@@ -111,20 +113,6 @@ module _ (p : Plan) (row : Bytes) (k : ℕ) where
     unfolding asked about check
     asked-well h = simp (sized-within row l, lt-ltb k (min (getD (p .numbers) 128 0) mostColumns) h)
 
-  -- then the row is opened
-  pub opened-refused : {e o : ℕ} {i : Input} → asked p row k ≡ bad e o i → openedFor p row k ≡ bad e o i
-  unfolding openedFor
-  opened-refused a = rw a
-
-  module _ (u : Unit {0}) (a : asked p row k ≡ ok u) where
-    pub opened-not : {e o : ℕ} {i : Input} → plannedOpen p row ≡ bad e o i → openedFor p row k ≡ bad e o input.Row
-    unfolding openedFor about
-    opened-not g = rw (a, g)
-
-    pub opened-so : (s : ℕ) → plannedOpen p row ≡ ok s → openedFor p row k ≡ ok s
-    unfolding openedFor about
-    opened-so s g = rw (a, g)
-
 -- what they tell where they pass
 module _ (p : Plan) (row : Bytes) (k : ℕ) (u : Unit {0}) (a : asked p row k ≡ ok u) where
   pub asked-sized : length row ≤ limit
@@ -142,15 +130,23 @@ module _ (p : Plan) (row : Bytes) (k : ℕ) (u : Unit {0}) (a : asked p row k �
 -- A row counts as opened, or is opened now.
 
 module _ (p : Plan) (start : ℕ) (row : Bytes) where
-  pub start-same : start ≡ plannedMap p → startChecked p start row ≡ ok tt
-  unfolding startChecked
-  start-same e = rw (eq-eqb start (plannedMap p) e)
+  pub counts-past : length row < start → countsOpened p start row ≡ false
+  unfolding countsOpened
+  counts-past h = rw (lt-leb start (length row) h)
 
-  module _ (n : start ≡ plannedMap p → ⊥) where
+  pub counts-in : start ≤ length row → countsOpened p start row ≡ eqb start (plannedMap p)
+  unfolding countsOpened
+  counts-in h = rw (le-leb start (length row) h)
+
+  pub start-counts : countsOpened p start row ≡ true → startChecked p start row ≡ ok tt
+  unfolding startChecked
+  start-counts e = rw e
+
+  module _ (n : countsOpened p start row ≡ false) where
     pub start-closed : {e o : ℕ} {i : Input} → plannedOpen p row ≡ bad e o i → startChecked p start row ≡ bad e o i
     unfolding startChecked
-    start-closed g = rw (ne-eqb start (plannedMap p) n, g)
+    start-closed g = rw (n, g)
 
     pub start-opens : (s : ℕ) → plannedOpen p row ≡ ok s → startChecked p start row ≡ ok tt
     unfolding startChecked
-    start-opens s g = rw (ne-eqb start (plannedMap p) n, g)
+    start-opens s g = rw (n, g)

@@ -4,7 +4,7 @@ use Prim.Native.Nat.{ℕ, _+_, _≤_, min}
 use mathlib.Core.List.{List}
 use mathlib.Core.Path.{_≡_}
 use lib.ListN.{getD}
-use lib.Dec.{ltb, eqb}
+use lib.Dec.{ltb}
 use Rattle.wire.specs.declared.error.Input.the-variants as input
 use Rattle.wire.specs.Read.{Bytes, Read, ok, bad, _>>=_, pick, check, about, sized}
 use Rattle.column.specs.declared.field.Field.{Field}
@@ -13,7 +13,8 @@ use Rattle.row.specs.Rows.{Place, reached, Answer, field}
 use Rattle.row.specs.declared.rows.WalkRead.{WalkRead}
 use Rattle.row.specs.declared.rows.WalkRead.the-variants as walk
 use Rattle.plan.specs.declared.plan.Plan.{Plan}
-use Rattle.plan.specs.Plans.{plannedMap, plannedOpen}
+use Rattle.plan.specs.Plans.{plannedOpen}
+use Rattle.plan.specs.Handles.{countsOpened}
 
 -- the plan of these numbers
 abbrev pub lent : List ℕ → Plan
@@ -54,16 +55,10 @@ asked p row k = do
   _ ← about input.Row (sized row)
   about input.Column (check (ltb k (min (getD (p .numbers) 128 0) mostColumns)) 18 0)
 
--- the same, then the row is opened: where its data start
-unfoldable pub openedFor : Plan → Bytes → ℕ → Read ℕ
-openedFor p row k = do
-  _ ← asked p row k
-  about input.Row (plannedOpen p row)
-
--- a row counts as opened where this start is the plan's; else it is opened now
+-- a row that counts as opened, or opens now
 unfoldable pub startChecked : Plan → (start : ℕ) → Bytes → Read (Unit {0})
 startChecked p start row =
-    pick (eqb start (plannedMap p)) (ok tt)
+    pick (countsOpened p start row) (ok tt)
     (do
       _ ← plannedOpen p row
       ok tt)

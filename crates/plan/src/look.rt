@@ -17,8 +17,8 @@ ghost use Rattle.row.specs.Parts.{partOf};
 ghost use Rattle.row.specs.Told.{toldWalk, toldLookUp};
 ghost use Rattle.plan.specs.Packed.{stopIn, markedIn, tabled};
 ghost use Rattle.plan.specs.Plans.{isStop, plannedList, fieldIn, passedVariable, visit, visits, jumped, unset, plannedOpen, plannedAnswer, plannedRow};
-ghost use Rattle.plan.specs.Handles.{openedRow, handled};
-ghost use Rattle.plan.specs.Lent.{lent, Near, Small, Lies, endOf, lengthOf, foundIn, asked, openedFor, startChecked};
+ghost use Rattle.plan.specs.Handles.{openedRow, countsOpened, handled};
+ghost use Rattle.plan.specs.Lent.{lent, Near, Small, Lies, endOf, lengthOf, foundIn, asked, startChecked};
 use crate::bit_in;
 use crate::column_in;
 use crate::gap_in;
@@ -43,6 +43,9 @@ use wire::error::Input;
 use wire::integer::IntRead;
 use wire::integer::wide;
 use wire::lesser;
+
+// The start of a row that was not opened: more than any row has.
+pub const NOT_OPENED: usize = 18_446_744_073_709_551_615;
 
 // Whether places behind a column depend on the row.
 pub fn is_stop(column: Column) -> bool
@@ -363,24 +366,21 @@ fn check_asked(plan: &[usize; 131], row: &[u8], k: usize) -> Matched
     Matched::Same
 }
 
-// The same, then the row is opened: where its data start.
-pub fn open_for(plan: &[usize; 131], row: &[u8], k: usize) -> IntRead
-    ensures { λ r. ⌜ toldInt r ≡ openedFor (lent (now (plan .entry))) (now (row .entry)) k ⌝ }
+// Whether a row counts as opened at `start`: it is the plan's start, and in the row.
+fn counts_opened(plan: &[usize; 131], start: usize, row: &[u8]) -> bool
+    ensures { λ r. ⌜ r ≡ countsOpened (lent (now (plan .entry))) start (now (row .entry)) ⌝ }
 {
-    match check_asked(plan, row, k) {
-        Matched::Refused(e) => IntRead::Refused(e),
-        Matched::Same => match open_map(plan, row) {
-            IntRead::Refused(e) => not_open(e),
-            IntRead::Int(start) => IntRead::Int(start),
-        },
+    if row.len() < start {
+        return false;
     }
+    start == plan[129]
 }
 
-// Whether a row counts as opened: its start is the plan's map size, or it opens now.
+// A row counts as opened, or is opened now.
 fn check_start(plan: &[usize; 131], start: usize, row: &[u8]) -> Matched
     ensures { λ r. ⌜ toldMatch r ≡ startChecked (lent (now (plan .entry))) start (now (row .entry)) ⌝ }
 {
-    if start == plan[129] {
+    if counts_opened(plan, start, row) {
         return Matched::Same;
     }
     match open_map(plan, row) {
@@ -389,8 +389,8 @@ fn check_start(plan: &[usize; 131], start: usize, row: &[u8]) -> Matched
     }
 }
 
-// Column `k` of a row that was opened at `start`, by a plan whose numbers are lent. The map is checked again only where the plan has
-// another start.
+// Column `k` of a row that was opened at `start`, by a plan whose numbers are lent. A row that does not count as opened there is opened
+// first.
 pub fn from_lent(plan: &[usize; 131], start: usize, row: &[u8], k: usize) -> LookUp
     ensures { λ r. ⌜ toldLookUp r ≡ handled (lent (now (plan .entry))) start (now (row .entry)) k ⌝ }
 {
@@ -403,21 +403,11 @@ pub fn from_lent(plan: &[usize; 131], start: usize, row: &[u8], k: usize) -> Loo
     }
 }
 
-// What a row has at column `k`, by a plan whose numbers are lent.
-pub fn look_lent(plan: &[usize; 131], row: &[u8], k: usize) -> LookUp
-    ensures { λ r. ⌜ toldLookUp r ≡ plannedRow (lent (now (plan .entry))) (now (row .entry)) k ⌝ }
-{
-    match open_for(plan, row, k) {
-        IntRead::Refused(e) => LookUp::Refused(e),
-        IntRead::Int(start) => from_lent(plan, start, row, k),
-    }
-}
-
 // What a row has at column `k`, by a plan.
 pub fn look_up(plan: Plan, row: &[u8], k: usize) -> LookUp
     ensures { λ r. ⌜ toldLookUp r ≡ plannedRow plan (now (row .entry)) k ⌝ }
 {
-    look_lent(&plan.numbers, row, k)
+    from_lent(&plan.numbers, NOT_OPENED, row, k)
 }
 
 // The bytes of a field that was found, as a part of the row; empty where none was.

@@ -18,8 +18,8 @@ returns-3 c = sym (ap foundAnswer (ap toldLookUp (c .enum-told2 .given .1)))
 
 returns-4 : tie.Need-returns-4
 returns-4 c =
-    let answer2 = c .before .before .answer2 in
-    c .refused-answer .ensures ∙ sym (ap foundAnswer (ap toldLookUp (answer2 .given .1)))
+    let answer2 = c .before .before .before .answer2 in
+    rw (c .before .code .ensures, c .number .ensures) (sym (ap foundAnswer (ap toldLookUp (answer2 .given .1))))
 
 pub found-answer-spec : {M : Type 1} → statement M
 found-answer-spec =
@@ -29,6 +29,7 @@ found-answer-spec =
     (λ c. search needs)
     (λ c. search needs)
     (λ c. search needs)
+    (λ c κs. search needs)
     (λ c κs. search needs)
     returns
     returns-2
