@@ -74,20 +74,39 @@ fn allows(column: Column, length: usize) -> bool
     length <= maximum
 }
 
-// The length in front of a field of variable length; more than any column allows where it is not there.
-fn length_in(column: Column, row: &[u8], at: usize) -> usize
-    ensures { λ r. ⌜ r ≡ lengthOf (readInt (now (row .entry)) at (prefixSize column)) ⌝ }
+// Where a field of variable length starts, and its length; more than any column allows where no length is there.
+struct Prefix {
+    pub start: usize,
+    pub length: usize,
+}
+
+// The length in front of such a field, which stands at `at`.
+fn prefix_in(column: Column, row: &[u8], at: usize) -> Prefix
+    ensures { λ r. ⌜ (r .length ≡ lengthOf (readInt (now (row .entry)) at (prefixSize column))) × (r .length < 131072 → r .start ≡ at + prefixSize column) ⌝ }
 {
     if column.maximum < 256 {
         if row.len() <= at {
-            return 4294967296;
+            return Prefix {
+                start: 0,
+                length: 4294967296,
+            };
         }
-        return wide(row[at]);
+        return Prefix {
+            start: at + 1,
+            length: wide(row[at]),
+        };
     }
     if lacks(row.len(), at, 4) {
-        return 4294967296;
+        return Prefix {
+            start: 0,
+            length: 4294967296,
+        };
     }
-    wide(row[at]) + 256 * (wide(row[at + 1]) + 256 * (wide(row[at + 2]) + 256 * wide(row[at + 3])))
+    Prefix {
+        start: at + 4,
+        length: wide(row[at])
+            + 256 * (wide(row[at + 1]) + 256 * (wide(row[at + 2]) + 256 * wide(row[at + 3]))),
+    }
 }
 
 // Where a field of variable length ends whose prefix stands at `at`; 0 where it is refused. A number serves look-ups better than an
@@ -96,13 +115,14 @@ fn variable_end(column: Column, row: &[u8], at: usize) -> usize
     requires { ⌜ isVariable column ≡ true ⌝ }
     ensures { λ r. ⌜ r ≡ endOf (variableAt column (now (row .entry)) at) ⌝ }
 {
-    let length = length_in(column, row, at);
+    let prefix = prefix_in(column, row, at);
+    let length = prefix.length;
     if allows(column, length) {
-        let start = at + column.prefix_size();
-        if row.len() - start < length {
+        let end = prefix.start + length;
+        if row.len() < end {
             return 0;
         }
-        return start + length;
+        return end;
     }
     0
 }
@@ -154,7 +174,8 @@ fn visit(
         if column.is_variable() {
             return pass_variable(column, bit_in(word), row, at + gap_in(word), prefixes);
         }
-        if is_stop(column) {
+        let stop = is_stop(column);
+        if stop {
             return WalkRead::At {
                 position: at + gap_in(word) + width_in(word) * one(is_set(row, bit_in(word))),
                 prefixes: prefixes,

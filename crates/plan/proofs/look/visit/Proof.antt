@@ -43,14 +43,14 @@ returns c =
       near-more (pass-variable .result) (length (args .row .now) + (args .at + gap-in .result)) (length (args .row .now) + args .at + 65790) (args .prefixes) (omega (arith, gap-in .ensures .1)) (pass-variable .ensures .1),
     )
 
-mul-t25 : tie.Need-mul-t25
-mul-t25 c =
+mul-t26 : tie.Need-mul-t26
+mul-t26 c =
     let width-in = c .before .before .before .width-in in
     let the-one = c .one in
     omega (arith, times-one (width-in .result) (the-one .result) (the-one .ensures .1), width-in .ensures .1)
 
-add-t26 : tie.Need-add-t26
-add-t26 c =
+add-t27 : tie.Need-add-t27
+add-t27 c =
     let pre = c .before .before .before .before .before .before .before .before .before .before .before .before .before .pre in
     let gap-in2 = c .before .before .before .before .gap-in2 in
     let width-in = c .before .before .before .width-in in
@@ -115,8 +115,8 @@ visit-spec =
     (λ c κs. search needs)
     (λ c κs. search needs)
     (λ c κs. search needs)
-    mul-t25
-    add-t26
+    mul-t26
+    add-t27
     returns-2
     returns-3
     returns-4)
