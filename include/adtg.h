@@ -228,18 +228,15 @@ uint32_t adtg_write_update(const uint8_t *file, size_t file_length, size_t numbe
  * in the row, and where no earlier column is a stop by the plan's own codes and flags, the field starts at the plan's gap,
  * with the bytes of its prefix added. */
 typedef struct adtg_plan {
-    size_t count;            /* columns */
-    size_t map;              /* bytes of the presence map */
-    size_t chapters;         /* nullable chapters */
-    uint8_t codes[64];       /* of each column: its type code; this and all that follow are 0 behind the last */
-    uint8_t flags[64];       /* its flags */
-    uint16_t maxima[64];     /* its maximum, 0 where the type has none */
-    uint16_t gaps[64];       /* the bytes from the end of the last earlier stop, or from the row's start, up to its prefix or
-                              * field; 0 for a chapter */
-    uint8_t bits[64];        /* how many nullable columns stand before it */
-    uint8_t before[64];      /* how many stops stand before it */
-    uint8_t stops[64];       /* the numbers of the stops, in order */
-    uint8_t marked[64];      /* the bits of the nullable chapters in the map, in order */
+    /* Number i, for each column i under 64: its type code in the lowest 8 bits, and above it its flags in 8, its maximum in 16
+     * (0 where the type has none), its gap in 16 (the bytes from the end of the last earlier stop, or from the row's start, up
+     * to its prefix or field; 0 for a chapter), its bit in the presence map in 8 (how many nullable columns stand before it)
+     * and its width in 8 (0 where the type has none).
+     * Number 64 + j, for each j under 64: how many stops stand before column j in the lowest 8 bits, the column number of stop
+     * j in 8, and above it the bit of nullable chapter j in the presence map.
+     * Number 128: how many columns there are. 129: the bytes of the presence map. 130: how many nullable chapters there are.
+     * All that has no column, stop or chapter is 0. */
+    uint64_t numbers[131];
 } adtg_plan;
 
 /* A plan, or why there is none. */
@@ -271,40 +268,29 @@ uint32_t adtg_check_plan(adtg_plan plan, const uint8_t *file, size_t file_length
  * out: fixed or not, place (0 where it is not). */
 uint32_t adtg_fixed_place(adtg_plan plan, size_t column, uint64_t out[16]);
 
-/* Looks up a column in an original row by the parts of a plan. With the plan of a schema it answers as `adtg_look_up` does
- * with that schema. */
-adtg_found adtg_planned_look_up(size_t count, size_t map, size_t chapters,
-                                const uint8_t codes[64], const uint8_t flags[64],
-                                const uint16_t maxima[64], const uint16_t gaps[64],
-                                const uint8_t bits[64], const uint8_t before[64],
-                                const uint8_t stops[64], const uint8_t marked[64],
-                                const uint8_t *row, size_t row_length, size_t column);
-
 /* Opens an original row by a plan: checks its size, that its presence map is whole and that no chapter's bit is set.
  * out: where the data behind the map start, for look-ups in the opened row. */
 uint32_t adtg_open_row(adtg_plan plan, const uint8_t *row, size_t row_length, uint64_t out[16]);
 
-/* Looks up a column in a row that was opened by the same plan, without checking the map again. `start` is what opening
- * answered. */
-adtg_found adtg_open_look_up(size_t count, size_t map, size_t chapters,
-                             const uint8_t codes[64], const uint8_t flags[64],
-                             const uint16_t maxima[64], const uint16_t gaps[64],
-                             const uint8_t bits[64], const uint8_t before[64],
-                             const uint8_t stops[64], const uint8_t marked[64],
-                             size_t start, const uint8_t *row, size_t row_length, size_t column);
+/* The start of a row that was not opened. */
+#define ADTG_NOT_OPENED SIZE_MAX
 
-/* The two look-ups with a plan in place of its parts. No call copies the plan. */
+/* Looks up a column in an original row by the numbers of a plan. With the plan of a schema it answers as `adtg_look_up` does
+ * with that schema. `start` is what opening the row by the same plan answered, and then the map is not checked again; or it is
+ * `ADTG_NOT_OPENED`. */
+adtg_found adtg_planned_look_up(const uint64_t numbers[131], size_t start,
+                                const uint8_t *row, size_t row_length, size_t column);
+
+/* Looks up a column by a plan, and in a row that was opened by it. Neither copies the plan. */
 static inline adtg_found adtg_find(const adtg_plan *plan, const uint8_t *row, size_t row_length, size_t column)
 {
-    return adtg_planned_look_up(plan->count, plan->map, plan->chapters, plan->codes, plan->flags, plan->maxima, plan->gaps,
-                                plan->bits, plan->before, plan->stops, plan->marked, row, row_length, column);
+    return adtg_planned_look_up(plan->numbers, ADTG_NOT_OPENED, row, row_length, column);
 }
 
 static inline adtg_found adtg_find_opened(const adtg_plan *plan, size_t start,
                                           const uint8_t *row, size_t row_length, size_t column)
 {
-    return adtg_open_look_up(plan->count, plan->map, plan->chapters, plan->codes, plan->flags, plan->maxima, plan->gaps,
-                             plan->bits, plan->before, plan->stops, plan->marked, start, row, row_length, column);
+    return adtg_planned_look_up(plan->numbers, start, row, row_length, column);
 }
 
 #ifdef __cplusplus

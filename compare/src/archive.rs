@@ -7,7 +7,7 @@ use crate::reading::header::Header;
 use crate::reading::options::Options;
 use crate::reading::plan::PlanNumbers;
 use crate::reading::row::Answer;
-use crate::reading::schema::{Counts, Description, MAX_COLUMNS};
+use crate::reading::schema::{Counts, Description};
 use crate::reading::update::{Change, Current};
 use crate::reading::{Error, ErrorCode, Input};
 
@@ -31,6 +31,9 @@ const FROM_UPDATE: u64 = 2;
 const FIXED: u64 = 1;
 const NOT_FIXED: u64 = 2;
 
+/// The start of a row that was not opened.
+const NOT_OPENED: usize = usize::MAX;
+
 /// What making a plan replies.
 #[repr(C)]
 #[derive(Clone, Copy)]
@@ -51,10 +54,6 @@ pub struct Found {
     second: u64,
     prefixes: u64,
 }
-
-/// The lists of a plan, one by one.
-type Bytes = *const [u8; MAX_COLUMNS];
-type Shorts = *const [u16; MAX_COLUMNS];
 
 extern "C" {
     fn adtg_read_header(bytes: *const u8, len: usize, out: *mut Out) -> u32;
@@ -211,39 +210,13 @@ extern "C" {
     ) -> u32;
     fn adtg_fixed_place(plan: PlanNumbers, column: usize, out: *mut Out) -> u32;
     fn adtg_planned_look_up(
-        count: usize,
-        map: usize,
-        chapters: usize,
-        codes: Bytes,
-        flags: Bytes,
-        maxima: Shorts,
-        gaps: Shorts,
-        bits: Bytes,
-        before: Bytes,
-        stops: Bytes,
-        marked: Bytes,
-        row: *const u8,
-        row_len: usize,
-        column: usize,
-    ) -> Found;
-    fn adtg_open_row(plan: PlanNumbers, row: *const u8, row_len: usize, out: *mut Out) -> u32;
-    fn adtg_open_look_up(
-        count: usize,
-        map: usize,
-        chapters: usize,
-        codes: Bytes,
-        flags: Bytes,
-        maxima: Shorts,
-        gaps: Shorts,
-        bits: Bytes,
-        before: Bytes,
-        stops: Bytes,
-        marked: Bytes,
+        plan: *const PlanNumbers,
         start: usize,
         row: *const u8,
         row_len: usize,
         column: usize,
     ) -> Found;
+    fn adtg_open_row(plan: PlanNumbers, row: *const u8, row_len: usize, out: *mut Out) -> u32;
 }
 
 /// Why a call of the archive gave no answer.
@@ -644,25 +617,8 @@ pub fn fixed_place(plan: &PlanNumbers, column: usize) -> Reply<Option<usize>> {
 /// What the archive finds in one column of a row through a plan.
 #[inline]
 pub fn planned_look_up(plan: &PlanNumbers, row: &[u8], column: usize) -> Found {
-    // SAFETY: as in `read_header`, for the row; each list of the plan has the length agreed.
-    unsafe {
-        adtg_planned_look_up(
-            plan.count,
-            plan.map,
-            plan.chapters,
-            &plan.codes,
-            &plan.flags,
-            &plan.maxima,
-            &plan.gaps,
-            &plan.bits,
-            &plan.before,
-            &plan.stops,
-            &plan.marked,
-            row.as_ptr(),
-            row.len(),
-            column,
-        )
-    }
+    // SAFETY: as in `read_header`, for the row; the plan has as many numbers as agreed.
+    unsafe { adtg_planned_look_up(plan, NOT_OPENED, row.as_ptr(), row.len(), column) }
 }
 
 /// Opens a row for the archive: where its data start.
@@ -677,25 +633,7 @@ pub fn open_row(plan: &PlanNumbers, row: &[u8]) -> Reply<usize> {
 #[inline]
 pub fn open_look_up(plan: &PlanNumbers, start: usize, row: &[u8], column: usize) -> Found {
     // SAFETY: as in `planned_look_up`.
-    unsafe {
-        adtg_open_look_up(
-            plan.count,
-            plan.map,
-            plan.chapters,
-            &plan.codes,
-            &plan.flags,
-            &plan.maxima,
-            &plan.gaps,
-            &plan.bits,
-            &plan.before,
-            &plan.stops,
-            &plan.marked,
-            start,
-            row.as_ptr(),
-            row.len(),
-            column,
-        )
-    }
+    unsafe { adtg_planned_look_up(plan, start, row.as_ptr(), row.len(), column) }
 }
 
 impl Found {
@@ -876,10 +814,8 @@ mod tests {
 
     #[test]
     fn a_plan_or_an_error_stands_alone() {
-        let made = PlanNumbers {
-            count: 1,
-            ..PlanNumbers::BLANK
-        };
+        let mut made = PlanNumbers::BLANK;
+        made.numbers[0] = 1;
         let answer = |code, offset, input, plan| {
             planned(&PlanAnswer {
                 code,

@@ -80,11 +80,12 @@ impl Text for Plan {
 /// The part of a plan's numbers that vector files show.
 impl Text for PlanNumbers {
     fn text(&self) -> String {
-        let mut text = format!("plan {}", self.count);
-        for at in 0..self.count.min(MAX_COLUMNS) {
+        let parts = self.parts();
+        let mut text = format!("plan {}", parts.count);
+        for at in 0..parts.count.min(MAX_COLUMNS) {
             text += &format!(
                 " {}:{}:{}:{}",
-                self.codes[at], self.flags[at], self.maxima[at], self.gaps[at]
+                parts.codes[at], parts.flags[at], parts.maxima[at], parts.gaps[at]
             );
         }
         text

@@ -29,11 +29,21 @@ pub struct PlanColumn {
     bit: u8,
 }
 
-/// All that a plan holds, as numbers in the order of the C interface. Each list has a number for
-/// each column, or one for each stop or nullable chapter; the rest are 0.
+/// How many numbers the plans of the C interface have.
+pub const PLAN_NUMBERS: usize = 2 * MAX_COLUMNS + 3;
+
+/// All that a plan holds, as the numbers of the C interface: one for each column, one for each
+/// number of the lists, then three.
 #[repr(C)]
 #[derive(Clone, Copy, Debug, PartialEq, Eq)]
 pub struct PlanNumbers {
+    pub numbers: [usize; PLAN_NUMBERS],
+}
+
+/// The parts that share these numbers. Each list has a number for each column, or one for each
+/// stop or nullable chapter; the rest are 0.
+#[derive(Clone, Copy, Debug, PartialEq, Eq)]
+pub struct PlanParts {
     pub count: usize,
     /// The bytes of the presence map.
     pub map: usize,
@@ -45,29 +55,64 @@ pub struct PlanNumbers {
     pub gaps: [u16; MAX_COLUMNS],
     /// How many nullable columns come before each column.
     pub bits: [u8; MAX_COLUMNS],
+    /// The widths of fixed columns.
+    pub widths: [u8; MAX_COLUMNS],
     /// How many stops come before each column.
     pub before: [u8; MAX_COLUMNS],
     /// The indexes of the stops.
     pub stops: [u8; MAX_COLUMNS],
-    /// The bits of the nullable chapters.
-    pub marked: [u8; MAX_COLUMNS],
+    /// The bits of the nullable chapters, each under 2^48.
+    pub marked: [u64; MAX_COLUMNS],
 }
 
 impl PlanNumbers {
     /// The plan of nothing.
     pub const BLANK: PlanNumbers = PlanNumbers {
-        count: 0,
-        map: 0,
-        chapters: 0,
-        codes: [0; MAX_COLUMNS],
-        flags: [0; MAX_COLUMNS],
-        maxima: [0; MAX_COLUMNS],
-        gaps: [0; MAX_COLUMNS],
-        bits: [0; MAX_COLUMNS],
-        before: [0; MAX_COLUMNS],
-        stops: [0; MAX_COLUMNS],
-        marked: [0; MAX_COLUMNS],
+        numbers: [0; PLAN_NUMBERS],
     };
+
+    /// The parts of its numbers.
+    pub fn parts(&self) -> PlanParts {
+        let (columns, rest) = self.numbers.split_at(MAX_COLUMNS);
+        let (lists, rest) = rest.split_at(MAX_COLUMNS);
+        let column = |at: usize, shift: u32| columns[at] >> shift;
+        let list = |at: usize, shift: u32| lists[at] >> shift;
+        let each: [usize; MAX_COLUMNS] = std::array::from_fn(|at| at);
+        PlanParts {
+            count: rest[0],
+            map: rest[1],
+            chapters: rest[2],
+            codes: each.map(|at| column(at, 0) as u8),
+            flags: each.map(|at| column(at, 8) as u8),
+            maxima: each.map(|at| column(at, 16) as u16),
+            gaps: each.map(|at| column(at, 32) as u16),
+            bits: each.map(|at| column(at, 48) as u8),
+            widths: each.map(|at| column(at, 56) as u8),
+            before: each.map(|at| list(at, 0) as u8),
+            stops: each.map(|at| list(at, 8) as u8),
+            marked: each.map(|at| list(at, 16) as u64),
+        }
+    }
+}
+
+impl PlanParts {
+    /// The numbers that hold them.
+    pub fn numbers(&self) -> PlanNumbers {
+        let mut numbers = [0; PLAN_NUMBERS];
+        for at in 0..MAX_COLUMNS {
+            numbers[at] = usize::from(self.codes[at])
+                | usize::from(self.flags[at]) << 8
+                | usize::from(self.maxima[at]) << 16
+                | usize::from(self.gaps[at]) << 32
+                | usize::from(self.bits[at]) << 48
+                | usize::from(self.widths[at]) << 56;
+            numbers[MAX_COLUMNS + at] = usize::from(self.before[at])
+                | usize::from(self.stops[at]) << 8
+                | (self.marked[at] as usize) << 16;
+        }
+        numbers[2 * MAX_COLUMNS..].copy_from_slice(&[self.count, self.map, self.chapters]);
+        PlanNumbers { numbers }
+    }
 }
 
 /// A row whose presence map is checked, for look-ups through the plan it was opened with.
@@ -148,13 +193,18 @@ impl Plan {
 
     /// All that the plan holds, as numbers.
     pub fn numbers(&self) -> PlanNumbers {
+        self.parts().numbers()
+    }
+
+    /// All that the plan holds, part by part.
+    fn parts(&self) -> PlanParts {
         let mut marked = [0; MAX_COLUMNS];
         let mut chapters = 0;
         for bit in self.presence.chapter_bits() {
-            marked[chapters] = bit as u8;
+            marked[chapters] = bit as u64;
             chapters += 1;
         }
-        PlanNumbers {
+        PlanParts {
             count: self.count,
             map: self.map_size(),
             chapters,
@@ -163,6 +213,10 @@ impl Plan {
             maxima: self.columns.map(|planned| planned.column.maximum),
             gaps: self.columns.map(|planned| planned.gap),
             bits: self.columns.map(|planned| planned.bit),
+            widths: self.columns.map(|planned| match planned.column.kind {
+                Kind::Fixed(width) => width,
+                Kind::Variable | Kind::Chapter => 0,
+            }),
             before: self.columns.map(|planned| planned.stops_before),
             stops: self.stops,
             marked,
@@ -274,7 +328,7 @@ mod tests {
             array
         };
         let wide = |numbers: &[u8]| start(numbers).map(u16::from);
-        let numbers = PlanNumbers {
+        let parts = PlanParts {
             count: 3,
             map: 1,
             chapters: 0,
@@ -283,16 +337,22 @@ mod tests {
             maxima: wide(&[0, 10, 0]),
             gaps: wide(&[1, 5, 0]),
             bits: start(&[0, 0, 1]),
+            widths: start(&[4, 0, 1]),
             before: start(&[0, 0, 1]),
             stops: start(&[1, 2]),
-            marked: start(&[]),
+            marked: [0; MAX_COLUMNS],
         };
-        assert_eq!(plan_of(&S).numbers(), numbers);
+        assert_eq!(plan_of(&S).parts(), parts);
+        let numbers = plan_of(&S).numbers().numbers;
+        assert_eq!(numbers[1], 0x0000_0005_000A_0182);
+        assert_eq!(numbers[2], 0x0101_0000_0000_0111);
+        assert_eq!(numbers[64..67], [0x0100, 0x0200, 0x0001]);
+        assert_eq!(numbers[128..], [3, 1, 0]);
         // A nullable byte, a chapter, a nullable chapter, a four-byte integer.
         let schema = [
             4, 0x11, 1, 0x88, 1, 0, 7, 1, 0x11, 0, 0x88, 1, 1, 8, 1, 0x11, 0, 3, 0,
         ];
-        let numbers = PlanNumbers {
+        let parts = PlanParts {
             count: 4,
             map: 1,
             chapters: 1,
@@ -301,11 +361,13 @@ mod tests {
             maxima: wide(&[]),
             gaps: wide(&[1, 0, 0, 0]),
             bits: start(&[0, 1, 1, 2]),
+            widths: start(&[1, 0, 0, 4]),
             before: start(&[0, 1, 1, 1]),
             stops: start(&[0]),
-            marked: start(&[1]),
+            marked: start(&[1]).map(u64::from),
         };
-        assert_eq!(plan_of(&schema).numbers(), numbers);
+        assert_eq!(plan_of(&schema).parts(), parts);
+        assert_eq!(plan_of(&schema).numbers().parts(), parts);
     }
 
     #[test]

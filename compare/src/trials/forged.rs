@@ -10,7 +10,7 @@ use crate::archive::{self, Fault, Reply};
 use crate::generate;
 use crate::random::Random;
 use crate::reading::column::{kind_of, Kind, BYTES, CHAPTER, FIXED, TEXT, WIDE_TEXT};
-use crate::reading::plan::{make_plan, PlanNumbers};
+use crate::reading::plan::{make_plan, PlanNumbers, PlanParts, PLAN_NUMBERS};
 use crate::reading::row::Answer;
 use crate::reading::schema::MAX_COLUMNS;
 use crate::reading::{Error, ErrorCode, Input, MAX_INPUT};
@@ -56,14 +56,15 @@ pub(super) fn look_up_case(random: &mut Random, run: &mut Run) {
     let Some((_, made)) = make(&subject.file, subject.number, run) else {
         return;
     };
-    let plan = forged(random, made);
+    let parts = forged(random, made.parts());
+    let plan = parts.numbers();
     check(&plan, &subject.file, subject.number, run);
     let row = row(random, &subject);
-    let count = plan.count.min(MAX_COLUMNS);
+    let count = parts.count.min(MAX_COLUMNS);
     let under = random.below(MAX_COLUMNS);
     let past = number_past(random, under, MAX_COLUMNS);
     let columns: Vec<usize> = (0..=count).chain([MAX_COLUMNS, past]).collect();
-    let any_start = random.pick(&[0, plan.map, row.len(), row.len() + 1, usize::MAX]);
+    let any_start = random.pick(&[0, parts.map, row.len(), row.len() + 1, usize::MAX]);
     look_ups(&plan, &row, any_start, &columns, run);
 }
 
@@ -72,10 +73,10 @@ pub(super) fn oversized(zeros: &[u8], run: &mut Run) {
     let Some((_, made)) = make(&SOUND, 0, run) else {
         return;
     };
-    let mut far = made;
+    let mut far = made.parts();
     far.gaps[0] = u16::MAX;
     far.map = MAX_INPUT;
-    for plan in [made, far, PlanNumbers::BLANK] {
+    for plan in [made, far.numbers(), PlanNumbers::BLANK] {
         for row in [&zeros[..0], &zeros[..MAX_INPUT], zeros] {
             for start in [0, MAX_INPUT, usize::MAX] {
                 look_ups(&plan, row, start, &[0, 1, usize::MAX], run);
@@ -124,7 +125,7 @@ fn look_ups(plan: &PlanNumbers, row: &[u8], any_start: usize, columns: &[usize],
 /// The place that the plan's own columns fix, or the error of a column that it lacks. The archive
 /// must say the same.
 fn fixed_place(plan: &PlanNumbers, column: usize, run: &mut Run) -> Result<Option<usize>, Error> {
-    let wanted = own_place(plan, column);
+    let wanted = own_place(&plan.parts(), column);
     let archive = archive::fixed_place(plan, column);
     let complaints = complaints(&wanted, &archive);
     run.judge(&FIXED_PLACE, &wanted, &complaints, || {
@@ -134,7 +135,7 @@ fn fixed_place(plan: &PlanNumbers, column: usize, run: &mut Run) -> Result<Optio
 }
 
 /// The place of a column by the plan's codes, flags, maxima and gaps alone.
-fn own_place(plan: &PlanNumbers, column: usize) -> Result<Option<usize>, Error> {
+fn own_place(plan: &PlanParts, column: usize) -> Result<Option<usize>, Error> {
     if column >= plan.count.min(MAX_COLUMNS) {
         return Err(Error::new(ErrorCode::NoSuch, 0, Input::Column));
     }
@@ -222,7 +223,7 @@ fn row(random: &mut Random, subject: &Subject) -> Vec<u8> {
 }
 
 /// A plan with something wrong in it, at times with nothing.
-fn forged(random: &mut Random, made: PlanNumbers) -> PlanNumbers {
+fn forged(random: &mut Random, made: PlanParts) -> PlanParts {
     let mut plan = match random.below(8) {
         0 => any_plan(random),
         1 => likely_plan(random),
@@ -242,41 +243,40 @@ fn forged(random: &mut Random, made: PlanNumbers) -> PlanNumbers {
     plan
 }
 
-/// Lists of one plan beside those of another that was made.
-fn mixed(random: &mut Random, mut plan: PlanNumbers) -> PlanNumbers {
+/// Parts of one plan beside those of another that was made.
+fn mixed(random: &mut Random, mut plan: PlanParts) -> PlanParts {
     let (file, schemas) = generate::schema_file(random);
     let number = random.below(schemas.schema_count());
     let other = make_plan(&file, number)
         .expect("the file is sound")
-        .numbers();
-    match random.below(8) {
+        .numbers()
+        .parts();
+    match random.below(9) {
         0 => plan.count = other.count,
         1 => (plan.map, plan.chapters, plan.marked) = (other.map, other.chapters, other.marked),
         2 => (plan.codes, plan.maxima) = (other.codes, other.maxima),
         3 => plan.flags = other.flags,
         4 => plan.gaps = other.gaps,
         5 => plan.bits = other.bits,
-        6 => plan.before = other.before,
+        6 => plan.widths = other.widths,
+        7 => plan.before = other.before,
         _ => plan.stops = other.stops,
     }
     plan
 }
 
 /// A plan of any numbers.
-fn any_plan(random: &mut Random) -> PlanNumbers {
-    let mut plan = PlanNumbers::BLANK;
-    for mut slot in slots(&mut plan) {
-        slot.set(random.bits());
-    }
-    plan
+fn any_plan(random: &mut Random) -> PlanParts {
+    let numbers = [0; PLAN_NUMBERS].map(|_: usize| random.bits() as usize);
+    PlanNumbers { numbers }.parts()
 }
 
 /// A plan of numbers that each might stand in one, together any.
-fn likely_plan(random: &mut Random) -> PlanNumbers {
+fn likely_plan(random: &mut Random) -> PlanParts {
     let mut codes: Vec<u8> = FIXED.iter().map(|(code, _)| *code).collect();
     codes.extend([BYTES, TEXT, WIDE_TEXT, BYTES, TEXT, WIDE_TEXT, CHAPTER]);
     let stops_to = random.between(1, MAX_COLUMNS);
-    PlanNumbers {
+    PlanParts {
         count: random.between(1, MAX_COLUMNS),
         map: random.below(9),
         chapters: random.pick(&[0, 0, 1, 2]),
@@ -285,34 +285,44 @@ fn likely_plan(random: &mut Random) -> PlanNumbers {
         maxima: [0; MAX_COLUMNS].map(|_: u16| random.pick(&[0, 1, 4, 12, 255, 256, 32_767])),
         gaps: [0; MAX_COLUMNS].map(|_: u16| random.below(20) as u16),
         bits: [0; MAX_COLUMNS].map(|_: u8| random.below(MAX_COLUMNS) as u8),
+        widths: [0; MAX_COLUMNS].map(|_: u8| random.pick(&[0, 1, 2, 4, 8, 16, 255])),
         before: [0; MAX_COLUMNS].map(|_: u8| random.below(stops_to) as u8),
         stops: [0; MAX_COLUMNS].map(|_: u8| random.below(MAX_COLUMNS) as u8),
-        marked: [0; MAX_COLUMNS].map(|_: u8| random.below(MAX_COLUMNS) as u8),
+        marked: [0; MAX_COLUMNS].map(|_: u64| random.below(MAX_COLUMNS) as u64),
     }
 }
 
-/// One number of a plan.
+/// The greatest bit that a plan can list.
+const MOST_BIT: u64 = (1 << 48) - 1;
+
+/// One part of a plan.
 enum Slot<'a> {
     Size(&'a mut usize),
+    Bit(&'a mut u64),
     Short(&'a mut u16),
     Byte(&'a mut u8),
 }
 
-/// All numbers of a plan.
-fn slots(plan: &mut PlanNumbers) -> Vec<Slot<'_>> {
+/// All parts of a plan.
+fn slots(plan: &mut PlanParts) -> Vec<Slot<'_>> {
     let sizes = [&mut plan.count, &mut plan.map, &mut plan.chapters];
     let shorts = plan.maxima.iter_mut().chain(&mut plan.gaps);
     let bytes = [
         &mut plan.codes,
         &mut plan.flags,
         &mut plan.bits,
+        &mut plan.widths,
         &mut plan.before,
         &mut plan.stops,
-        &mut plan.marked,
     ];
     let sizes = sizes.into_iter().map(Slot::Size);
     let bytes = bytes.into_iter().flatten().map(Slot::Byte);
-    sizes.chain(shorts.map(Slot::Short)).chain(bytes).collect()
+    let marked = plan.marked.iter_mut().map(Slot::Bit);
+    sizes
+        .chain(shorts.map(Slot::Short))
+        .chain(bytes)
+        .chain(marked)
+        .collect()
 }
 
 impl Slot<'_> {
@@ -320,6 +330,7 @@ impl Slot<'_> {
     fn set(&mut self, number: u64) {
         match self {
             Slot::Size(size) => **size = number as usize,
+            Slot::Bit(bit) => **bit = number & MOST_BIT,
             Slot::Short(short) => **short = number as u16,
             Slot::Byte(byte) => **byte = number as u8,
         }
@@ -329,6 +340,7 @@ impl Slot<'_> {
     fn change(&mut self, random: &mut Random) {
         let (old, bits) = match self {
             Slot::Size(size) => (**size as u64, usize::BITS),
+            Slot::Bit(bit) => (**bit, MOST_BIT.count_ones()),
             Slot::Short(short) => (u64::from(**short), u16::BITS),
             Slot::Byte(byte) => (u64::from(**byte), u8::BITS),
         };
@@ -347,26 +359,13 @@ mod tests {
 
     #[test]
     fn slots_reach_every_number() {
-        let mut plan = PlanNumbers::BLANK;
+        let mut plan = PlanNumbers::BLANK.parts();
         let mut slots = slots(&mut plan);
-        assert_eq!(slots.len(), 3 + 8 * MAX_COLUMNS);
+        assert_eq!(slots.len(), 3 + 9 * MAX_COLUMNS);
         for slot in &mut slots {
             slot.set(u64::MAX);
         }
-        let full = PlanNumbers {
-            count: usize::MAX,
-            map: usize::MAX,
-            chapters: usize::MAX,
-            codes: [u8::MAX; MAX_COLUMNS],
-            flags: [u8::MAX; MAX_COLUMNS],
-            maxima: [u16::MAX; MAX_COLUMNS],
-            gaps: [u16::MAX; MAX_COLUMNS],
-            bits: [u8::MAX; MAX_COLUMNS],
-            before: [u8::MAX; MAX_COLUMNS],
-            stops: [u8::MAX; MAX_COLUMNS],
-            marked: [u8::MAX; MAX_COLUMNS],
-        };
-        assert_eq!(plan, full);
+        assert_eq!(plan.numbers().numbers, [usize::MAX; PLAN_NUMBERS]);
     }
 
     #[test]
@@ -376,7 +375,7 @@ mod tests {
             let (file, _) = generate::schema_file(&mut random);
             let plan = make_plan(&file, 0).unwrap();
             for column in 0..=MAX_COLUMNS {
-                let place = own_place(&plan.numbers(), column);
+                let place = own_place(&plan.numbers().parts(), column);
                 assert_eq!(place, plan.fixed_place(column));
             }
         }

@@ -9,14 +9,14 @@ use Rattle.wire.specs.declared.error.Input.the-variants as input
 use Rattle.wire.specs.Read.{Bytes, AreBytes, Read, ok, bad, _>>=_, about, sized}
 use Rattle.wire.proofs.Pieces.{bind-ok, ok-ok}
 use Rattle.column.specs.declared.column.Column.{Column}
-use Rattle.schema.specs.Tree.{mostColumns, mostFlags}
+use Rattle.schema.specs.Tree.{mostColumns, mostFlags, mostMaximum}
 use Rattle.schema.specs.Schemas.{Entry, asColumn}
 use Rattle.schema.specs.Questions.{alone, Selected, selectedOf}
 use Rattle.schema.proofs.SchemaLists.{EntryRange, EntriesRange, no-entry, an-entry}
 use Rattle.row.specs.Presence.{noColumn}
 use Rattle.adtg.specs.InSchema.{both, inSchema}
 use Rattle.plan.specs.declared.plan.Plan.{Plan}
-use Rattle.plan.specs.Plans.{planOf}
+use Rattle.plan.specs.Plans.{planOf, Kept}
 use Rattle.adtg.specs.Plans.{columnsOf, planIn}
 use Rattle.adtg.proofs.Laws.{allSizes, by-selection, selected-range}
 
@@ -52,17 +52,31 @@ columns-few file number cs bytes h =
     let r = selected-range file number x bytes s in
     rw (← q) (omega (arith, length-map (x .columns) asColumn, r .0))
 
-flags-at : {es : List Entry} → EntriesRange es → (i : ℕ) → getD (map asColumn es) i noColumn .flags ≤ mostFlags
-flags-at no-entry i = omega arith
-flags-at (an-entry r rs) zero = r .flags
-flags-at (an-entry r rs) (suc i) = flags-at rs i
+column-at :
+    {es : List Entry} → EntriesRange es → (i : ℕ) →
+    (getD (map asColumn es) i noColumn .code < 256) × (getD (map asColumn es) i noColumn .flags ≤ mostFlags) × (getD (map asColumn es) i noColumn .maximum ≤ mostMaximum)
+column-at no-entry i = (omega arith, omega arith, omega arith)
+column-at (an-entry r rs) zero = (r .code, r .flags, r .maximum)
+column-at (an-entry r rs) (suc i) = column-at rs i
 
 -- their flags are 0 or 1
 pub columns-flags :
     (file : Bytes) (number : ℕ) (cs : List Column) → AreBytes file → columnsOf file number ≡ ok cs → (i : ℕ) → getD cs i noColumn .flags ≤ mostFlags
 columns-flags file number cs bytes h i =
     let (x, e, s, q) = selected-columns file number cs h in
-    rw (← q) (flags-at (selected-range file number x bytes s .1) i)
+    rw (← q) (column-at (selected-range file number x bytes s .1) i .1)
+
+-- a plan can hold them
+pub columns-kept : (file : Bytes) (number : ℕ) (cs : List Column) → AreBytes file → columnsOf file number ≡ ok cs → Kept cs
+columns-kept file number cs bytes h =
+    let (x, e, s, q) = selected-columns file number cs h in
+    let r = selected-range file number x bytes s .1 in
+    record {
+      few = columns-few file number cs bytes h;
+      code = λ i. rw (← q) (column-at r i .0);
+      flags = λ i. rw (← q) (omega (arith, column-at r i .1));
+      maximum = λ i. rw (← q) (omega (arith, column-at r i .2));
+    }
 
 -- a schema that makes a plan has columns, and the plan is theirs
 pub plan-columns :

@@ -22,17 +22,7 @@ fn blank_plan() -> Plan
     ensures { λ r. ⌜ r ≡ blank ⌝ }
 {
     Plan {
-        count: 0,
-        map: 0,
-        chapters: 0,
-        codes: [0u8; 64],
-        flags: [0u8; 64],
-        maxima: [0u16; 64],
-        gaps: [0u16; 64],
-        bits: [0u8; 64],
-        before: [0u8; 64],
-        stops: [0u8; 64],
-        marked: [0u8; 64],
+        numbers: [0usize; 131],
     }
 }
 

@@ -1,11 +1,12 @@
-// Plans: made and compared with a schema file, places, and look-up through a plan. A look-up is lent the parts of the plan, so that no
-// call copies it.
+// Plans: made and compared with a schema file, places, and look-up through a plan. A look-up is lent the numbers of the plan, so that
+// no call copies them.
 ghost use mathlib.Core.Path.{_≡_};
-ghost use Rattle.wire.specs.Read.{toldMatch};
+ghost use Prim.Native.Nat.{_<_};
+ghost use Rattle.wire.specs.Read.{toldMatch, limit};
 ghost use Rattle.row.specs.Told.{toldLookUp};
 ghost use Rattle.plan.specs.Plans.{plannedRow, fixedPlace};
 ghost use Rattle.plan.specs.Handles.{openedRow, handled};
-ghost use Rattle.plan.specs.Lent.{parts};
+ghost use Rattle.plan.specs.Lent.{lent};
 ghost use Rattle.plan.specs.Told.{toldPlace};
 ghost use Rattle.adtg.specs.Plans.{planIn, toldPlan};
 ghost use Rattle.adtg_c.specs.Answers.{Answered, sizeValues};
@@ -19,7 +20,6 @@ use adtg::plans::make_plan;
 use plan::fixed::PlaceRead;
 use plan::fixed::fixed_place;
 use plan::look::from_lent;
-use plan::look::look_lent;
 use plan::look::open_row;
 use plan::plan::Plan;
 use row::rows::LookUp;
@@ -172,76 +172,17 @@ fn found_answer(answer: LookUp) -> FoundAnswer
     }
 }
 
-// What a row has at a column, by a plan whose parts are lent.
+// What a row that was opened at `start` has at a column, by a plan whose numbers are lent. A start over the limit of a row's size is
+// that of a row that was not opened.
 #[no_mangle]
-pub extern "C" fn adtg_planned_look_up<'a>(
-    count: usize,
-    map: usize,
-    chapters: usize,
-    codes: &'a [u8; 64],
-    flags: &'a [u8; 64],
-    maxima: &'a [u16; 64],
-    gaps: &'a [u16; 64],
-    bits: &'a [u8; 64],
-    before: &'a [u8; 64],
-    stops: &'a [u8; 64],
-    marked: &'a [u8; 64],
-    row: &[u8],
-    column: usize,
-) -> FoundAnswer
-    ensures { λ r. ⌜ r ≡ foundAnswer (plannedRow (parts count map chapters (now (codes .entry)) (now (flags .entry)) (now (maxima .entry)) (now (gaps .entry)) (now (bits .entry)) (now (before .entry)) (now (stops .entry)) (now (marked .entry))) (now (row .entry)) column) ⌝ }
-{
-    found_answer(look_lent(
-        count,
-        map,
-        chapters,
-        codes,
-        flags,
-        maxima,
-        gaps,
-        bits,
-        before,
-        stops,
-        marked,
-        row,
-        column,
-    ))
-}
-
-// What a row that was opened at `start` has at a column.
-#[no_mangle]
-pub extern "C" fn adtg_open_look_up<'a>(
-    count: usize,
-    map: usize,
-    chapters: usize,
-    codes: &'a [u8; 64],
-    flags: &'a [u8; 64],
-    maxima: &'a [u16; 64],
-    gaps: &'a [u16; 64],
-    bits: &'a [u8; 64],
-    before: &'a [u8; 64],
-    stops: &'a [u8; 64],
-    marked: &'a [u8; 64],
+pub extern "C" fn adtg_planned_look_up(
+    plan: &[usize; 131],
     start: usize,
     row: &[u8],
     column: usize,
 ) -> FoundAnswer
-    ensures { λ r. ⌜ r ≡ foundAnswer (handled (parts count map chapters (now (codes .entry)) (now (flags .entry)) (now (maxima .entry)) (now (gaps .entry)) (now (bits .entry)) (now (before .entry)) (now (stops .entry)) (now (marked .entry))) start (now (row .entry)) column) ⌝ }
+    ensures opened { λ r. ⌜ r ≡ foundAnswer (handled (lent (now (plan .entry))) start (now (row .entry)) column) ⌝ }
+    ensures direct { λ r. ⌜ (limit < start → r ≡ foundAnswer (plannedRow (lent (now (plan .entry))) (now (row .entry)) column)) ⌝ }
 {
-    found_answer(from_lent(
-        count,
-        map,
-        chapters,
-        codes,
-        flags,
-        maxima,
-        gaps,
-        bits,
-        before,
-        stops,
-        marked,
-        start,
-        row,
-        column,
-    ))
+    found_answer(from_lent(plan, start, row, column))
 }

@@ -23,7 +23,7 @@ use Rattle.plan.proofs.Plans.{same-columns}
 use Rattle.plan.proofs.Places.{place-exact}
 use Rattle.adtg.specs.Rows.{lookUpIn}
 use Rattle.adtg.specs.Plans.{columnsOf, planIn}
-use Rattle.adtg.proofs.Selected.{asks-columns, columns-few, columns-flags, plan-columns, columns-plan}
+use Rattle.adtg.proofs.Selected.{asks-columns, columns-kept, columns-flags, plan-columns, columns-plan}
 use Rattle.demands.specs.Agreement.{Agree}
 
 -- For every row and every column number, looking up through the plan that a schema makes gives the whole answer of the walk.
@@ -34,7 +34,7 @@ unfolding lookUpIn lookUpRow
 plan-route-is-walk file number p bytes h row k =
     let (cs, e, q) = plan-columns file number p h in
     ap (λ (p : Plan). plannedRow p row k) (sym q)
-    ∙ jump-row cs row k (columns-few file number cs bytes e)
+    ∙ jump-row cs row k (columns-kept file number cs bytes e)
     ∙ sym (asks-columns file number cs e (about input.Row (sized row)) (λ columns. lookUp columns row k))
 
 -- The place that the plan names without any row is the one that the paper gives the column.
@@ -43,7 +43,7 @@ pub plan-names-place :
     fixedPlace p k ≡ placeOf cs k
 plan-names-place file number p cs bytes e h k =
     let q : p ≡ planOf cs = ok-ok (sym h ∙ columns-plan file number cs e) in
-    ap (λ (p : Plan). fixedPlace p k) q ∙ place-exact cs k (columns-few file number cs bytes e)
+    ap (λ (p : Plan). fixedPlace p k) q ∙ place-exact cs k (columns-kept file number cs bytes e)
 
 column-same : (a b : Column) → a .code ≡ b .code → a .flags ≡ b .flags → a .maximum ≡ b .maximum → a ≡ b
 column-same a b e f g =
@@ -88,4 +88,4 @@ module _ (file other : Bytes) (number second : ℕ) (cs ds : List Column) (bytes
     plans-equal-iff-agree p q h g =
         let x : p ≡ planOf cs = ok-ok (sym h ∙ columns-plan file number cs e) in
         let y : q ≡ planOf ds = ok-ok (sym g ∙ columns-plan other second ds f) in
-        (λ s. same-agree (same-columns cs ds (columns-few file number cs bytes e) (columns-few other second ds others f) (sym x ∙ s ∙ y)), λ a. x ∙ ap planOf (agree-same a) ∙ sym y)
+        (λ s. same-agree (same-columns cs ds (columns-kept file number cs bytes e) (columns-kept other second ds others f) (sym x ∙ s ∙ y)), λ a. x ∙ ap planOf (agree-same a) ∙ sym y)

@@ -1,67 +1,29 @@
 -- The ways out of a look-up through a plan, for the functions' proofs.
 -- Assumes nothing.
 use Prim.Native.Nat.{ℕ, _+_, _≤_, _<_, min}
-use mathlib.Core.List.{List, [], _∷_}
 use mathlib.Core.Bool.{true, false}
 use mathlib.Core.Path.{_≡_, refl, sym, ap, _∙_}
 use native.Mathlib.Omega.{arith}
-use lib.ListN.{length}
-use borrow.Author.Tests.{lt-ltb, le-ltb, ltb-true, leb-true}
+use lib.ListN.{length, getD}
+use lib.Dec.{eqb}
+use borrow.Author.Tests.{lt-ltb, le-ltb, ltb-true, leb-true, lt-leb, le-leb}
 use Rattle.wire.specs.declared.error.Input.{Input}
 use Rattle.wire.specs.declared.error.Input.the-variants as input
-use Rattle.wire.specs.Read.{Bytes, Read, ok, bad, _>>=_, check, about, sizedBy, sized, limit}
+use Rattle.wire.specs.Read.{Bytes, Read, ok, bad, _>>=_, pick, check, about, sizedBy, sized, limit}
 use Rattle.wire.proofs.Laws.{whole-fits, whole-short, sized-over, sized-within}
 use Rattle.wire.proofs.Pieces.{bind-ok, about-ok, check-ok}
 use Rattle.column.specs.declared.field.Field.{Field}
-use Rattle.column.specs.Columns.{isChapter}
-use Rattle.column.specs.Fields.{fieldAt}
-use Rattle.column.specs.Layout.{mostColumns, padded}
+use Rattle.column.specs.Columns.{isVariable, isChapter}
+use Rattle.column.specs.Fields.{field as bytes, variableAt}
+use Rattle.column.specs.Layout.{mostColumns}
+use Rattle.column.proofs.Laws.{bytes-short, bytes-fit}
 use Rattle.row.specs.Presence.{present}
-use Rattle.row.specs.Rows.{Place, place, reached, arrive, field, null, chapter}
+use Rattle.row.specs.Rows.{Place, place, reached, field, null, chapter}
 use Rattle.plan.specs.declared.plan.Plan.{Plan}
-use Rattle.plan.specs.Plans.{plannedColumn, plannedMark, plannedGap, visit, visits, stopsTo, jumped, unset, plannedKnown, plannedOpen, plannedAnswer, plannedLookUp, plannedRow}
-use Rattle.plan.specs.Lent.{lent, lentWay, lentMap, asked}
-
--- A plan's arrays, lent, answer as the plan does.
-
-module _ (p : Plan) (row : Bytes) where
-  visit-lent :
-      (k i : ℕ) (w : Place) → visit (lent (p .codes) (p .flags) (p .maxima) (p .gaps) (p .bits)) row k i w ≡ visit p row k i w
-  unfolding visit
-  visit-lent k i w = refl
-
-  pub visits-lent :
-      (k : ℕ) (l : List ℕ) (w : Place) → visits (lent (p .codes) (p .flags) (p .maxima) (p .gaps) (p .bits)) row k l w ≡ visits p row k l w
-  unfolding visits
-  visits-lent k [] w = refl
-  visits-lent k (i ∷ l) w = rw (visit-lent k i w) (go (visit p row k i w) (visits-lent k l))
-    where
-      go :
-          (r : Read Place) →
-          ((v : Place) → visits (lent (p .codes) (p .flags) (p .maxima) (p .gaps) (p .bits)) row k l v ≡ visits p row k l v) →
-          r >>= (λ (v : Place). visits (lent (p .codes) (p .flags) (p .maxima) (p .gaps) (p .bits)) row k l v) ≡ r >>= (λ (v : Place). visits p row k l v)
-      go (ok v) e = e v
-      go (bad e o n) f = refl
-
-  pub open-lent : plannedOpen (lentMap (p .map) (p .chapters) (p .marked)) row ≡ plannedOpen p row
-  unfolding plannedOpen
-  open-lent = refl
-
--- The way to column k, by a plan's arrays alone.
-
-module _ (p : Plan) (row : Bytes) (k : ℕ) where
-  abbrev way : Plan
-  way = lentWay (p .codes) (p .flags) (p .maxima) (p .gaps) (p .bits) (p .before) (p .stops)
-
-  jumped-lent : jumped way row k ≡ jumped p row k
-  unfolding jumped
-  jumped-lent =
-      ap (λ (r : Read Place). r >>= (λ (w : Place). ok (place (w .at + plannedGap p k) (w .prefixes))))
-      (sym (visits-lent way row k (stopsTo p k) (place 0 0)) ∙ visits-lent p row k (stopsTo p k) (place 0 0))
-
-  pub answer-lent : plannedAnswer way row k ≡ plannedAnswer p row k
-  unfolding plannedAnswer
-  answer-lent = rw jumped-lent refl
+use Rattle.plan.specs.Packed.{unpacked, widthIn}
+use Rattle.plan.specs.Plans.{plannedWord, plannedColumn, plannedMark, plannedGap, plannedMap, plannedMarked, fieldIn, visits, stopsTo, jumped, landed, unset, plannedOpen, plannedAnswer}
+use Rattle.plan.specs.Handles.{countsOpened}
+use Rattle.plan.specs.Lent.{foundIn, asked, startChecked}
 
 -- The ways out of the way to column k.
 
@@ -74,6 +36,23 @@ module _ (p : Plan) (row : Bytes) (k : ℕ) where
       (w : Place) → visits p row k (stopsTo p k) (place 0 0) ≡ ok w → {g : ℕ} → g ≡ plannedGap p k → jumped p row k ≡ ok (place (w .at + g) (w .prefixes))
   unfolding jumped
   jumped-well w v e = rw (v, e)
+
+-- The field of a column that a plan holds as number n.
+
+module _ (n : ℕ) (row : Bytes) (w : Place) where
+  pub found-variable : isVariable (unpacked n) ≡ true → foundIn w (fieldIn n row (w .at)) ≡ foundIn w (variableAt (unpacked n) row (w .at))
+  unfolding fieldIn
+  found-variable v = rw v
+
+  module _ (v : isVariable (unpacked n) ≡ false) where
+    pub found-short : length row < w .at + widthIn n → foundIn w (fieldIn n row (w .at)) ≡ bad 1 (length row) input.Row
+    unfolding fieldIn
+    found-short h = rw (v, bytes-short row (w .at) (widthIn n) 0 h)
+
+    pub found-fixed :
+        w .at + widthIn n ≤ length row → foundIn w (fieldIn n row (w .at)) ≡ ok (field (bytes (w .at) (w .at + widthIn n) (w .prefixes)))
+    unfolding fieldIn
+    found-fixed h = let z : w .prefixes + 0 ≡ w .prefixes = omega arith in rw (v, bytes-fit row (w .at) (widthIn n) 0 h, z)
 
 -- The ways out of column k of a row that opens.
 
@@ -93,89 +72,81 @@ module _ (p : Plan) (row : Bytes) (k : ℕ) where
       unfolding plannedAnswer about
       answer-refused j = rw (c, t, j)
 
-      module _ (w : Place) (j : jumped p row k ≡ ok w) where
-        -- so does the column's own field
-        pub answer-bad :
-            {e o : ℕ} {i : Input} → fieldAt (plannedColumn p k) row (w .at) ≡ bad e o i → about input.Row (plannedAnswer p row k) ≡ bad e o input.Row
-        unfolding plannedAnswer arrive about
-        answer-bad f = rw (c, t, j, f)
-
-        -- the field is found
-        pub answer-found :
-            (f : Field) → fieldAt (plannedColumn p k) row (w .at) ≡ ok f → about input.Row (plannedAnswer p row k) ≡ ok (field (reached w f))
-        unfolding plannedAnswer arrive about
-        answer-found f e = rw (c, t, j, e)
+      -- else the column's own field decides
+      pub answer-found : (w : Place) → jumped p row k ≡ ok w → about input.Row (plannedAnswer p row k) ≡ foundIn w (fieldIn (plannedWord p k) row (w .at))
+      unfolding plannedAnswer landed about
+      answer-found w j = rw (c, t, j) (go (fieldIn (plannedWord p k) row (w .at)))
+        where
+          go : (r : Read Field) → about input.Row ((r >>= (λ (f : Field). ok (reached w f))) >>= (λ (f : Field). ok (field f))) ≡ foundIn w r
+          go (ok f) = refl
+          go (bad e o i) = refl
 
 -- The ways out of opening a row.
 
 module _ (p : Plan) (row : Bytes) where
-  pub open-short : length row < 0 + p .map → plannedOpen p row ≡ bad 1 (length row) input.Single
+  pub open-short : length row < plannedMap p → plannedOpen p row ≡ bad 1 (length row) input.Single
   unfolding plannedOpen
-  open-short h = simp (whole-short row 0 (p .map) h)
+  open-short h = simp (whole-short row 0 (plannedMap p) (omega arith))
 
-  module _ (h : 0 + p .map ≤ length row) where
-    pub open-marked :
-        {e o : ℕ} {i : Input} → unset row (padded (min (p .chapters) mostColumns) (p .marked)) ≡ bad e o i → plannedOpen p row ≡ bad e o i
+  module _ (h : plannedMap p ≤ length row) where
+    pub open-marked : {e o : ℕ} {i : Input} → unset row (plannedMarked p) ≡ bad e o i → plannedOpen p row ≡ bad e o i
     unfolding plannedOpen
-    open-marked m = simp (whole-fits row 0 (p .map) h, m)
+    open-marked m = simp (whole-fits row 0 (plannedMap p) (omega arith), m)
 
-    pub open-well : unset row (padded (min (p .chapters) mostColumns) (p .marked)) ≡ ok tt → plannedOpen p row ≡ ok (p .map)
+    pub open-well : unset row (plannedMarked p) ≡ ok tt → plannedOpen p row ≡ ok (plannedMap p)
     unfolding plannedOpen
-    open-well m = let z : 0 + p .map ≡ p .map = omega arith in simp (whole-fits row 0 (p .map) h, m, z)
+    open-well m = let z : 0 + plannedMap p ≡ plannedMap p = omega arith in simp (whole-fits row 0 (plannedMap p) (omega arith), m, z)
 
 -- The first checks.
 
--- two readers and then a third, or one and then two
-pub one-by-one : {A B C : Type 0} (r : Read A) (f : A → Read B) (g : B → Read C) → r >>= (λ (a : A). f a >>= g) ≡ (r >>= f) >>= g
-one-by-one (ok a) f g = refl
-one-by-one (bad e o i) f g = refl
-
-module _ (count : ℕ) (row : Bytes) (k : ℕ) where
-  pub asked-large : limit < length row → asked count row k ≡ bad 19 0 input.Row
+module _ (p : Plan) (row : Bytes) (k : ℕ) where
+  pub asked-large : limit < length row → asked p row k ≡ bad 19 0 input.Row
   unfolding asked about
   asked-large h = simp (sized-over row h)
 
   module _ (l : length row ≤ limit) where
-    pub asked-column : min count mostColumns ≤ k → asked count row k ≡ bad 18 0 input.Column
+    pub asked-column : min (getD (p .numbers) 128 0) mostColumns ≤ k → asked p row k ≡ bad 18 0 input.Column
     unfolding asked about check
-    asked-column h = simp (sized-within row l, le-ltb k (min count mostColumns) h)
+    asked-column h = simp (sized-within row l, le-ltb k (min (getD (p .numbers) 128 0) mostColumns) h)
 
-    pub asked-well : k < min count mostColumns → asked count row k ≡ ok tt
+    pub asked-well : k < min (getD (p .numbers) 128 0) mostColumns → asked p row k ≡ ok tt
     unfolding asked about check
-    asked-well h = simp (sized-within row l, lt-ltb k (min count mostColumns) h)
+    asked-well h = simp (sized-within row l, lt-ltb k (min (getD (p .numbers) 128 0) mostColumns) h)
 
 -- what they tell where they pass
-module _ (count : ℕ) (row : Bytes) (k : ℕ) (u : Unit {0}) (a : asked count row k ≡ ok u) where
+module _ (p : Plan) (row : Bytes) (k : ℕ) (u : Unit {0}) (a : asked p row k ≡ ok u) where
   pub asked-sized : length row ≤ limit
   unfolding asked sized sizedBy
   asked-sized =
       let (v, e, f) = bind-ok (about input.Row (sized row)) _ u a in
       leb-true _ _ (check-ok _ _ _ v (about-ok _ _ v e))
 
-  pub asked-known : k < min count mostColumns
+  pub asked-known : k < min (getD (p .numbers) 128 0) mostColumns
   unfolding asked
   asked-known =
       let (v, e, f) = bind-ok (about input.Row (sized row)) _ u a in
       ltb-true _ _ (check-ok _ _ _ u (about-ok _ _ u f))
 
--- The ways out of a look-up: the first checks, the map, the column.
+-- A row counts as opened, or is opened now.
 
-module _ (p : Plan) (row : Bytes) (k : ℕ) where
-  asked-first :
-      plannedRow p row k
-      ≡ asked (p .count) row k >>= (λ (u : Unit {0}). about input.Row (plannedOpen p row) >>= (λ (s : ℕ). about input.Row (plannedAnswer p row k)))
-  unfolding plannedRow plannedLookUp plannedKnown asked
-  asked-first = one-by-one (about input.Row (sized row)) _ _
+module _ (p : Plan) (start : ℕ) (row : Bytes) where
+  pub counts-past : length row < start → countsOpened p start row ≡ false
+  unfolding countsOpened
+  counts-past h = rw (lt-leb start (length row) h)
 
-  pub planned-refused : {e o : ℕ} {i : Input} → asked (p .count) row k ≡ bad e o i → plannedRow p row k ≡ bad e o i
-  planned-refused a = asked-first ∙ simp a
+  pub counts-in : start ≤ length row → countsOpened p start row ≡ eqb start (plannedMap p)
+  unfolding countsOpened
+  counts-in h = rw (le-leb start (length row) h)
 
-  module _ (u : Unit {0}) (a : asked (p .count) row k ≡ ok u) where
-    pub planned-closed : {e o : ℕ} {i : Input} → plannedOpen p row ≡ bad e o i → plannedRow p row k ≡ bad e o input.Row
-    unfolding about
-    planned-closed g = asked-first ∙ simp (a, g)
+  pub start-counts : countsOpened p start row ≡ true → startChecked p start row ≡ ok tt
+  unfolding startChecked
+  start-counts e = rw e
 
-    -- a row that opens is asked for its column
-    pub planned-open : (s : ℕ) → plannedOpen p row ≡ ok s → plannedRow p row k ≡ about input.Row (plannedAnswer p row k)
-    unfolding about
-    planned-open s g = asked-first ∙ simp (a, g)
+  module _ (n : countsOpened p start row ≡ false) where
+    pub start-closed : {e o : ℕ} {i : Input} → plannedOpen p row ≡ bad e o i → startChecked p start row ≡ bad e o i
+    unfolding startChecked
+    start-closed g = rw (n, g)
+
+    pub start-opens : (s : ℕ) → plannedOpen p row ≡ ok s → startChecked p start row ≡ ok tt
+    unfolding startChecked
+    start-opens s g = rw (n, g)

@@ -6,49 +6,72 @@ use mathlib.Core.List.{List, [], _∷_}
 use mathlib.Core.Bool.{Bool, true, false, true≢false}
 use mathlib.Core.Path.{_≡_, refl, sym, ap, _∙_}
 use mathlib.Core.Logic.{⊎-elim}
-use native.Mathlib.Omega.{arith}
+use native.Mathlib.Omega.{arith, by-contra}
 use native.Mathlib.Nat.{eq-or-lt-of-le}
 use lib.ListN.{length}
 use lib.Dec.{ltb}
 use borrow.Author.Tests.{ltb-true}
 use Rattle.wire.specs.declared.error.Input.the-variants as input
 use Rattle.wire.specs.Read.{Bytes, ok, _>>=_, pick, about}
-use Rattle.wire.proofs.Pieces.{bind-ok, about-ok, ok-ok}
+use Rattle.wire.proofs.Pieces.{bad-ok, bind-ok, about-ok, ok-ok}
 use Rattle.column.specs.declared.field.Field.{Field}
-use Rattle.column.specs.Columns.{isChapter, prefixBytes}
-use Rattle.column.specs.Fields.{fieldAt}
-use Rattle.column.proofs.Laws.{field-told}
+use Rattle.column.specs.Columns.{isVariable, isChapter, prefixBytes}
+use Rattle.column.specs.Fields.{field as bytes, bytesAt, variableAt}
+use Rattle.column.proofs.Laws.{prefix-plain, bytes-short, bytes-fit, field-variable, field-told}
 use Rattle.row.specs.Presence.{present}
-use Rattle.row.specs.Rows.{Place, place, past, reached, arrive, field, null, chapter}
+use Rattle.row.specs.Rows.{Place, place, reached, field, null, chapter}
 use Rattle.row.proofs.Found.{chapter-field, null-field, field-field}
 use Rattle.plan.specs.declared.plan.Plan.{Plan}
-use Rattle.plan.specs.Plans.{isStop, plannedColumn, plannedMark, plannedGap, visit, visits, stopsTo, jumped, plannedKnown, plannedOpen, plannedAnswer, plannedLookUp, FixedPlace, fixed, moving, noStops, fixedPlace}
+use Rattle.plan.specs.Packed.{unpacked, widthIn}
+use Rattle.plan.specs.Plans.{isStop, plannedWord, plannedColumn, plannedMark, plannedGap, fieldIn, passed, visit, visits, stopsTo, jumped, landed, plannedKnown, plannedOpen, plannedAnswer, plannedLookUp, FixedPlace, fixed, moving, noStops, fixedPlace}
 use Rattle.plan.proofs.Arrays.{plannedField}
+
+-- What a field that is found by a number of a plan tells.
+pub record ToldIn (n : ℕ) (row : Bytes) (at : ℕ) (f : Field) : Type 0 where
+  pub starts : f .start ≡ at + prefixBytes (unpacked n)
+  pub forward : f .start ≤ f .end
+  pub ends : f .end ≤ length row
+
+pub told-in : (n : ℕ) (row : Bytes) (at : ℕ) {f : Field} → fieldIn n row at ≡ ok f → ToldIn n row at f
+unfolding fieldIn
+told-in n row at {f} h = go (isVariable (unpacked n)) refl h
+  where
+    go :
+        (v : Bool) → isVariable (unpacked n) ≡ v → pick v (variableAt (unpacked n) row at) (bytesAt row at (widthIn n) 0) ≡ ok f → ToldIn n row at f
+    go true v e =
+        let t = field-told (unpacked n) row at (field-variable (unpacked n) row at v ∙ e) in
+        record { starts = t .starts; forward = t .forward; ends = t .ends }
+    go false v e =
+        let l : at + widthIn n ≤ length row = by-contra _ _ (λ l. bad-ok (sym (bytes-short row at (widthIn n) 0 l) ∙ e)) in
+        let q : bytes at (at + widthIn n) 0 ≡ f = ok-ok (sym (bytes-fit row at (widthIn n) 0 l) ∙ e) in
+        let s : at ≡ f .start = ap (λ (f : Field). f .start) q in
+        let d : at + widthIn n ≡ f .end = ap (λ (f : Field). f .end) q in
+        record { starts = omega (arith, prefix-plain (unpacked n) v); forward = omega arith; ends = omega arith }
 
 -- What a look-up through a plan that finds a field tells: where the stops led, and the column's own field there.
 pub record Landed (p : Plan) (row : Bytes) (k : ℕ) (f : Field) : Type 0 where
   pub place : Place
   pub own : Field
   pub way : visits p row k (stopsTo p k) (record { at = 0; prefixes = 0 }) ≡ ok place
-  pub there : fieldAt (plannedColumn p k) row (place .at + plannedGap p k) ≡ ok own
+  pub there : fieldIn (plannedWord p k) row (place .at + plannedGap p k) ≡ ok own
   pub same : f ≡ reached place own
 
 module _ (p : Plan) (row : Bytes) (k : ℕ) where
   field-landed : (f : Field) → plannedField p row k ≡ ok (field f) → Landed p row k f
-  unfolding jumped arrive
+  unfolding jumped landed
   field-landed f h =
       let (w, e1, f1) = bind-ok (jumped p row k) _ (field f) h in
       let (v, e2, f2) = bind-ok (visits p row k (stopsTo p k) (place 0 0)) _ w e1 in
       let q : place (v .at + plannedGap p k) (v .prefixes) ≡ w = ok-ok f2 in
-      let (g, e3, f3) = bind-ok (arrive (plannedColumn p k) row w) _ (field f) f1 in
-      let (o, e4, f4) = bind-ok (fieldAt (plannedColumn p k) row (w .at)) _ g e3 in
+      let (g, e3, f3) = bind-ok (landed (plannedWord p k) row w) _ (field f) f1 in
+      let (o, e4, f4) = bind-ok (fieldIn (plannedWord p k) row (w .at)) _ g e3 in
       let s : g ≡ f = field-field f3 in
       let r : reached w o ≡ g = ok-ok f4 in
       record {
         place = v;
         own = o;
         way = e2;
-        there = ap (λ (w : Place). fieldAt (plannedColumn p k) row (w .at)) q ∙ e4;
+        there = ap (λ (w : Place). fieldIn (plannedWord p k) row (w .at)) q ∙ e4;
         same = sym (ap (λ (w : Place). reached w o) q ∙ r ∙ s);
       }
 
@@ -64,9 +87,9 @@ module _ (p : Plan) (row : Bytes) (k : ℕ) where
       go false false e = absurd (null-field e)
       go false true e = field-landed f e
 
-  pub landed : (f : Field) → plannedLookUp p row k ≡ ok (field f) → Landed p row k f
+  pub look-landed : (f : Field) → plannedLookUp p row k ≡ ok (field f) → Landed p row k f
   unfolding plannedLookUp
-  landed f h =
+  look-landed f h =
       let (u, e1, f1) = bind-ok (plannedKnown p k) _ (field f) h in
       let (s, e2, f2) = bind-ok (about input.Row (plannedOpen p row)) _ (field f) f1 in
       answer-landed f (about-ok input.Row (plannedAnswer p row k) (field f) f2)
@@ -74,8 +97,8 @@ module _ (p : Plan) (row : Bytes) (k : ℕ) where
   -- a field that is found lies in the row
   pub planned-inside : (f : Field) → plannedLookUp p row k ≡ ok (field f) → (f .start ≤ f .end) × (f .end ≤ length row)
   planned-inside f h =
-      let d = landed f h in
-      let t = field-told (plannedColumn p k) row (d .place .at + plannedGap p k) (d .there) in
+      let d = look-landed f h in
+      let t = told-in (plannedWord p k) row (d .place .at + plannedGap p k) (d .there) in
       rw (d .same) (t .forward, t .ends)
 
 -- By a plan whose columns before k are no stops, no visit moves.
@@ -98,11 +121,7 @@ module _ (p : Plan) (row : Bytes) (k : ℕ) (none : noStops p k ≡ true) where
     where
       go :
           (t : Bool) → ltb i k ≡ t →
-          pick t
-          (pick (isStop (plannedColumn p i))
-          (pick (present row (plannedMark p i)) (fieldAt (plannedColumn p i) row (w .at + plannedGap p i) >>= (λ (f : Field). ok (past w f)))
-          (ok (place (w .at + plannedGap p i) (w .prefixes)))) (ok w)) (ok w)
-          ≡ ok w
+          pick t (pick (isStop (plannedColumn p i)) (passed (plannedWord p i) row (place (w .at + plannedGap p i) (w .prefixes))) (ok w)) (ok w) ≡ ok w
       go true e = rw (none-stops p k none i (ltb-true _ _ e)) refl
       go false e = refl
 
@@ -133,8 +152,8 @@ pub planned-placed :
     (p : Plan) (row : Bytes) (k : ℕ) (f : Field) (x : ℕ) → fixedPlace p k ≡ ok (fixed x) → plannedLookUp p row k ≡ ok (field f) → f .start ≡ x
 planned-placed p row k f x e h =
     let (n, q) = fixed-told p k x e in
-    let d = landed p row k f h in
+    let d = look-landed p row k f h in
     let z : place 0 0 ≡ d .place = ok-ok (sym (visits-still p row k n (stopsTo p k) (place 0 0)) ∙ d .way) in
     let y : 0 ≡ d .place .at = ap (λ (w : Place). w .at) z in
-    let t = field-told (plannedColumn p k) row (d .place .at + plannedGap p k) (d .there) in
+    let t = told-in (plannedWord p k) row (d .place .at + plannedGap p k) (d .there) in
     ap (λ (g : Field). g .start) (d .same) ∙ omega (arith, t .starts)

@@ -3,39 +3,34 @@
 use Prim.Native.Nat.{ℕ, zero, suc, _+_, _≤_, _<_, min}
 use mathlib.Core.List.{List, [], _∷_, map}
 use mathlib.Core.Bool.{Bool, true, false}
-use mathlib.Core.Path.{_≡_, refl, ap, _∙_}
+use mathlib.Core.Path.{_≡_, refl, sym, ap, _∙_}
 use native.Mathlib.Omega.{arith}
-use lib.ListN.{length, getD, take, List·getD-map}
-use lib.Seq.{take-length}
+use lib.ListN.{length, getD, take, drop, List·getD-map}
+use lib.Seq.{take-length, drop-cons}
 use Rattle.wire.specs.Read.{Bytes, Read, ok, _>>=_, pick}
 use Rattle.column.specs.declared.column.Column.{Column}
 use Rattle.column.specs.declared.field.Field.{Field}
-use Rattle.column.specs.Columns.{isChapter, isNullable}
-use Rattle.column.specs.Layout.{mostColumns, padded, layout}
+use Rattle.column.specs.Columns.{width, isChapter, isNullable}
+use Rattle.column.specs.Layout.{mostColumns}
 use Rattle.row.specs.Presence.{noColumn, one, Mark, mark, noMark, marks, bitOf, markOf, presenceBytes}
-use Rattle.row.specs.Rows.{Place, arrive, Answer, field}
-use Rattle.row.proofs.Laws.{length-marks, mark-at, padded-at, layout-column}
+use Rattle.row.specs.Rows.{Place, Answer, field}
+use Rattle.row.proofs.Laws.{length-marks, mark-at}
 use Rattle.plan.specs.declared.plan.Plan.{Plan}
-use Rattle.plan.specs.Plans.{isStop, gapPast, gapsFrom, gapsOf, stopsFrom, stopsBefore, bitsOf, chapterBits, planOf, plannedColumn, plannedMark, plannedGap, plannedCount, stopsTo, jumped}
+use Rattle.plan.specs.Plans.{isStop, gapPast, gapsFrom, gapsOf, stopsFrom, stopsBefore, bitsOf, chapterBits, planOf, Kept, plannedWord, plannedColumn, plannedMark, plannedGap, plannedList, plannedCount, plannedMap, plannedMarked, stopsTo, jumped, landed}
+use Rattle.plan.specs.Packed.{packed, unpacked, gapIn, bitIn, widthIn, beforeIn, stopIn, markedIn, listNumbers, tabled}
+use Rattle.plan.proofs.Packed.{packed-column, packed-gap, packed-bit, packed-width, listed-before, listed-stop, listed-marked, tabled-same, laid-column, laid-list, laid-count, laid-map, laid-chapters}
+use Rattle.plan.proofs.Sizes.{gaps-small, bits-small, before-small, stops-small, map-few}
 
 -- what a look-up through a plan answers of a present column
 abbrev pub plannedField : Plan → Bytes → ℕ → Read Answer
-plannedField p row k = jumped p row k >>= (λ (w : Place). arrive (plannedColumn p k) row w >>= (λ (f : Field). ok (field f)))
+plannedField p row k = jumped p row k >>= (λ (w : Place). landed (plannedWord p k) row w >>= (λ (f : Field). ok (field f)))
 
--- Padded lists.
+-- the numbers of the columns and of the lists
+abbrev pub columns : List Column → ℕ → ℕ
+columns cs i = packed (getD cs i noColumn) (getD (gapsOf cs) i 0) (getD (bitsOf cs) i 0)
 
-padded-take : (n m : ℕ) (l : List ℕ) → n ≤ length l → n ≤ m → padded n (padded m l) ≡ take n l
-unfolding padded
-padded-take zero m l h g = refl
-padded-take (suc n) zero l h g = absurd (omega arith)
-padded-take (suc n) (suc m) [] h g = absurd (omega arith)
-padded-take (suc n) (suc m) (a ∷ l) h g = ap (λ (t : List ℕ). a ∷ t) (padded-take n m l (omega arith) (omega arith))
-
--- the first numbers of an array, as many as a count says that is cut off at the array's size
-listed : (n m : ℕ) (l : List ℕ) → n ≤ length l → length l ≤ m → padded (min n m) (padded m l) ≡ take n l
-listed n m l h g =
-    let e : min n m ≡ n = omega arith in
-    ap (λ (x : ℕ). padded x (padded m l)) e ∙ padded-take n m l h (omega arith)
+abbrev pub lists : List Column → ℕ → ℕ
+lists cs = listNumbers (stopsBefore 0 cs) (stopsFrom 0 cs) (chapterBits (marks 0 cs))
 
 -- The lists that a plan is made of.
 
@@ -90,71 +85,132 @@ chapters-few (m ∷ ms) = go (isChapter (m .column)) (isNullable (m .column)) (c
     go true false r = omega arith
     go false n r = omega arith
 
+-- the first numbers of a list, as many as a count says that is cut off
+taken : (l : List ℕ) (n i : ℕ) → i + n ≤ length l → tabled (λ (j : ℕ). getD l j 0) n i ≡ take n (drop i l)
+unfolding tabled
+taken l zero i h = refl
+taken l (suc n) i h = ap (λ (t : List ℕ). getD l i 0 ∷ t) (taken l n (suc i) (omega arith)) ∙ sym (ap (take (suc n)) (drop-cons l i 0 (omega arith)))
+
+counted : (f : ℕ → ℕ) (l : List ℕ) (n : ℕ) → ((j : ℕ) → j < mostColumns → f j ≡ getD l j 0) → n ≤ length l → length l ≤ mostColumns → tabled f (min n mostColumns) 0 ≡ take n l
+counted f l n e h g =
+    let z : min n mostColumns ≡ n = omega arith in
+    ap (λ (m : ℕ). tabled f m 0) z ∙ tabled-same f (λ (j : ℕ). getD l j 0) n 0 (λ j k. e j (omega arith)) ∙ taken l n 0 (omega arith)
+
 -- What the plan of these columns holds.
 
-module _ (cs : List Column) (few : length cs ≤ mostColumns) where
+module _ (cs : List Column) (kept : Kept cs) where
   pub count-planned : plannedCount (planOf cs) ≡ length cs
   unfolding planOf
-  count-planned = omega arith
+  count-planned = omega (arith, kept .few, laid-count (columns cs) (lists cs) (length cs) (presenceBytes cs) (length (chapterBits (marks 0 cs))))
 
-  pub chapters-planned : padded (min (planOf cs .chapters) mostColumns) (planOf cs .marked) ≡ chapterBits (marks 0 cs)
+  pub map-planned : plannedMap (planOf cs) ≡ presenceBytes cs
   unfolding planOf
-  chapters-planned =
-      listed (length (chapterBits (marks 0 cs))) mostColumns (chapterBits (marks 0 cs)) (omega arith)
-      (omega (arith, chapters-few (marks 0 cs), length-marks 0 cs))
-      ∙ take-length (chapterBits (marks 0 cs))
+  map-planned = laid-map (columns cs) (lists cs) (length cs) (presenceBytes cs) (length (chapterBits (marks 0 cs)))
 
+  -- number j of the lists
+  module _ (j : ℕ) (h : j < mostColumns) where
+    list-planned : plannedList (planOf cs) j ≡ lists cs j
+    unfolding planOf
+    list-planned = laid-list (columns cs) (lists cs) (length cs) (presenceBytes cs) (length (chapterBits (marks 0 cs))) j h
+
+    before-planned : beforeIn (plannedList (planOf cs) j) ≡ getD (stopsBefore 0 cs) j 0
+    before-planned =
+        ap beforeIn list-planned
+        ∙ listed-before (getD (stopsBefore 0 cs) j 0) (getD (stopsFrom 0 cs) j 0) (getD (chapterBits (marks 0 cs)) j 0) (omega (arith, before-small 0 cs j, kept .few)) (omega (arith, stops-small 0 cs j, kept .few))
+
+    stop-planned : stopIn (plannedList (planOf cs) j) ≡ getD (stopsFrom 0 cs) j 0
+    stop-planned =
+        ap stopIn list-planned
+        ∙ listed-stop (getD (stopsBefore 0 cs) j 0) (getD (stopsFrom 0 cs) j 0) (getD (chapterBits (marks 0 cs)) j 0) (omega (arith, before-small 0 cs j, kept .few)) (omega (arith, stops-small 0 cs j, kept .few))
+
+    marked-planned : markedIn (plannedList (planOf cs) j) ≡ getD (chapterBits (marks 0 cs)) j 0
+    marked-planned =
+        ap markedIn list-planned
+        ∙ listed-marked (getD (stopsBefore 0 cs) j 0) (getD (stopsFrom 0 cs) j 0) (getD (chapterBits (marks 0 cs)) j 0) (omega (arith, before-small 0 cs j, kept .few)) (omega (arith, stops-small 0 cs j, kept .few))
+
+  chapter-count : getD (planOf cs .numbers) 130 0 ≡ length (chapterBits (marks 0 cs))
+  unfolding planOf
+  chapter-count = laid-chapters (columns cs) (lists cs) (length cs) (presenceBytes cs) (length (chapterBits (marks 0 cs)))
+
+  pub chapters-planned : plannedMarked (planOf cs) ≡ chapterBits (marks 0 cs)
+  chapters-planned =
+      let l : List ℕ = chapterBits (marks 0 cs) in
+      ap (λ (n : ℕ). tabled (λ (j : ℕ). markedIn (plannedList (planOf cs) j)) (min n mostColumns) 0) chapter-count
+      ∙ counted (λ (j : ℕ). markedIn (plannedList (planOf cs) j)) l (length l) marked-planned (omega arith)
+      (omega (arith, chapters-few (marks 0 cs), length-marks 0 cs, kept .few))
+      ∙ take-length l
+
+  -- column i
   module _ (i : ℕ) (h : i < length cs) where
+    gap-fits : getD (gapsOf cs) i 0 < 65536
+    gap-fits = omega (arith, gaps-small (presenceBytes cs) cs i, map-few cs (kept .few), kept .few)
+
+    bit-fits : getD (bitsOf cs) i 0 < 256
+    bit-fits = omega (arith, bits-small 0 cs i, kept .few)
+
+    word-planned : plannedWord (planOf cs) i ≡ columns cs i
+    unfolding planOf
+    word-planned = laid-column (columns cs) (lists cs) (length cs) (presenceBytes cs) (length (chapterBits (marks 0 cs))) i (omega (arith, kept .few))
+
     pub column-planned : plannedColumn (planOf cs) i ≡ getD cs i noColumn
-    unfolding planOf layout
-    column-planned = layout-column cs i (omega arith) refl refl refl
+    column-planned =
+        ap unpacked word-planned
+        ∙ packed-column (getD cs i noColumn) (getD (gapsOf cs) i 0) (getD (bitsOf cs) i 0) (kept .code i) (kept .flags i) (kept .maximum i) gap-fits bit-fits
 
     pub gap-planned : plannedGap (planOf cs) i ≡ getD (gapsOf cs) i 0
-    unfolding planOf
-    gap-planned = padded-at mostColumns (gapsOf cs) i (omega arith)
+    gap-planned =
+        ap gapIn word-planned
+        ∙ packed-gap (getD cs i noColumn) (getD (gapsOf cs) i 0) (getD (bitsOf cs) i 0) (kept .code i) (kept .flags i) (kept .maximum i) gap-fits bit-fits
 
-    bit-planned : getD (planOf cs .bits) i 0 ≡ getD (bitsOf cs) i 0
-    unfolding planOf
-    bit-planned = padded-at mostColumns (bitsOf cs) i (omega arith)
+    bit-planned : bitIn (plannedWord (planOf cs) i) ≡ getD (bitsOf cs) i 0
+    bit-planned =
+        ap bitIn word-planned
+        ∙ packed-bit (getD cs i noColumn) (getD (gapsOf cs) i 0) (getD (bitsOf cs) i 0) (kept .code i) (kept .flags i) (kept .maximum i) gap-fits bit-fits
+
+    pub width-planned : widthIn (plannedWord (planOf cs) i) ≡ width (getD cs i noColumn)
+    width-planned =
+        ap widthIn word-planned
+        ∙ packed-width (getD cs i noColumn) (getD (gapsOf cs) i 0) (getD (bitsOf cs) i 0) (kept .code i) (kept .flags i) (kept .maximum i) gap-fits bit-fits
 
     pub mark-planned : plannedMark (planOf cs) i ≡ markOf cs i
     mark-planned =
-        let b : getD (planOf cs .bits) i 0 ≡ bitOf cs i =
+        let b : bitIn (plannedWord (planOf cs) i) ≡ bitOf cs i =
         bit-planned ∙ List·getD-map (λ (m : Mark). m .bit) (marks 0 cs) i noMark ∙ ap (λ (m : Mark). m .bit) (mark-at cs i h) in
-        ap (λ (c : Column). mark c (getD (planOf cs .bits) i 0)) column-planned ∙ ap (mark (getD cs i noColumn)) b
+        ap (λ (c : Column). mark c (bitIn (plannedWord (planOf cs) i))) column-planned ∙ ap (mark (getD cs i noColumn)) b
 
     pub stops-planned : stopsTo (planOf cs) i ≡ take (stopCount cs i) (stopsFrom 0 cs)
-    unfolding planOf
     stops-planned =
-        let e : getD (padded mostColumns (stopsBefore 0 cs)) i 0 ≡ stopCount cs i =
-        padded-at mostColumns (stopsBefore 0 cs) i (omega arith) ∙ stops-counted 0 cs i h ∙ omega arith in
-        ap (λ (n : ℕ). padded (min n mostColumns) (padded mostColumns (stopsFrom 0 cs))) e
-        ∙ listed (stopCount cs i) mostColumns (stopsFrom 0 cs) (count-few 0 cs i) (omega (arith, stops-few 0 cs))
+        let e : beforeIn (plannedList (planOf cs) i) ≡ stopCount cs i = before-planned i (omega (arith, kept .few)) ∙ stops-counted 0 cs i h ∙ omega arith in
+        ap (λ (n : ℕ). tabled (λ (j : ℕ). stopIn (plannedList (planOf cs) j)) (min n mostColumns) 0) e
+        ∙ counted (λ (j : ℕ). stopIn (plannedList (planOf cs) j)) (stopsFrom 0 cs) (stopCount cs i) stop-planned (count-few 0 cs i) (omega (arith, stops-few 0 cs, kept .few))
 
--- From column i on, with gap g and bit b in front of them, a plan holds these columns with their gaps and bits.
+-- From column i on, with gap g and bit b in front of them, a plan holds these columns with their gaps, bits and widths.
 pub data Holds (p : Plan) : ℕ → ℕ → ℕ → List Column → Type 0 where
   none : {i g b : ℕ} → Holds p i g b []
   more :
-      {i g b : ℕ} {c : Column} {cs : List Column} → plannedColumn p i ≡ c → plannedGap p i ≡ pick (isChapter c) 0 g → getD (p .bits) i 0 ≡ b →
-      Holds p (suc i) (gapPast c g) (b + one (isNullable c)) cs → Holds p i g b (c ∷ cs)
+      {i g b : ℕ} {c : Column} {cs : List Column} → plannedColumn p i ≡ c → plannedGap p i ≡ pick (isChapter c) 0 g → bitIn (plannedWord p i) ≡ b →
+      widthIn (plannedWord p i) ≡ width c → Holds p (suc i) (gapPast c g) (b + one (isNullable c)) cs → Holds p i g b (c ∷ cs)
 
 module _ (p : Plan) where
   holds-by :
       (i g b : ℕ) (cs : List Column) → ((j : ℕ) → j < length cs → plannedColumn p (i + j) ≡ getD cs j noColumn) →
       ((j : ℕ) → j < length cs → plannedGap p (i + j) ≡ getD (gapsFrom g cs) j 0) →
-      ((j : ℕ) → j < length cs → getD (p .bits) (i + j) 0 ≡ getD (map (λ (m : Mark). m .bit) (marks b cs)) j 0) → Holds p i g b cs
+      ((j : ℕ) → j < length cs → bitIn (plannedWord p (i + j)) ≡ getD (map (λ (m : Mark). m .bit) (marks b cs)) j 0) →
+      ((j : ℕ) → j < length cs → widthIn (plannedWord p (i + j)) ≡ width (getD cs j noColumn)) → Holds p i g b cs
   unfolding gapsFrom marks
-  holds-by i g b [] x y z = none
-  holds-by i g b (c ∷ cs) x y z =
+  holds-by i g b [] x y z u = none
+  holds-by i g b (c ∷ cs) x y z u =
       let o : i + 0 ≡ i = omega arith in
       let s : (j : ℕ) → suc i + j ≡ i + suc j = λ j. omega arith in
-      more (rw o at (x 0 (omega arith))) (rw o at (y 0 (omega arith))) (rw o at (z 0 (omega arith)))
+      more (rw o at (x 0 (omega arith))) (rw o at (y 0 (omega arith))) (rw o at (z 0 (omega arith))) (rw o at (u 0 (omega arith)))
       (holds-by (suc i) (gapPast c g) (b + one (isNullable c)) cs (λ j h. ap (plannedColumn p) (s j) ∙ x (suc j) (omega arith))
-      (λ j h. ap (plannedGap p) (s j) ∙ y (suc j) (omega arith)) (λ j h. ap (λ (n : ℕ). getD (p .bits) n 0) (s j) ∙ z (suc j) (omega arith)))
+      (λ j h. ap (plannedGap p) (s j) ∙ y (suc j) (omega arith)) (λ j h. ap (λ (n : ℕ). bitIn (plannedWord p n)) (s j) ∙ z (suc j) (omega arith))
+      (λ j h. ap (λ (n : ℕ). widthIn (plannedWord p n)) (s j) ∙ u (suc j) (omega arith)))
 
-pub planned-holds : (cs : List Column) → length cs ≤ mostColumns → Holds (planOf cs) 0 (presenceBytes cs) 0 cs
-planned-holds cs few =
+pub planned-holds : (cs : List Column) → Kept cs → Holds (planOf cs) 0 (presenceBytes cs) 0 cs
+planned-holds cs kept =
     let s : (j : ℕ) → 0 + j ≡ j = λ j. omega arith in
-    holds-by (planOf cs) 0 (presenceBytes cs) 0 cs (λ j h. ap (plannedColumn (planOf cs)) (s j) ∙ column-planned cs few j h)
-    (λ j h. ap (plannedGap (planOf cs)) (s j) ∙ gap-planned cs few j h)
-    (λ j h. ap (λ (n : ℕ). getD (planOf cs .bits) n 0) (s j) ∙ bit-planned cs few j h)
+    holds-by (planOf cs) 0 (presenceBytes cs) 0 cs (λ j h. ap (plannedColumn (planOf cs)) (s j) ∙ column-planned cs kept j h)
+    (λ j h. ap (plannedGap (planOf cs)) (s j) ∙ gap-planned cs kept j h)
+    (λ j h. ap (λ (n : ℕ). bitIn (plannedWord (planOf cs) n)) (s j) ∙ bit-planned cs kept j h)
+    (λ j h. ap (λ (n : ℕ). widthIn (plannedWord (planOf cs) n)) (s j) ∙ width-planned cs kept j h)

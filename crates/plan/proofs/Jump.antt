@@ -1,6 +1,6 @@
 -- The jump: a look-up through the plan of some columns answers as the walk over them.
 -- Assumes nothing.
-use Prim.Native.Nat.{ℕ, zero, suc, _+_, _/_, _≤_, _<_}
+use Prim.Native.Nat.{ℕ, zero, suc, _+_, _*_, _/_, _≤_, _<_}
 use mathlib.Core.List.{List, [], _∷_}
 use mathlib.Core.Bool.{Bool, true, false, not, true≢false}
 use mathlib.Core.Path.{_≡_, refl, sym, ap, _∙_}
@@ -18,16 +18,16 @@ use Rattle.column.specs.declared.types.Kind.{Kind}
 use Rattle.column.specs.declared.types.Kind.the-variants.{Fixed, Variable, Wide, Chapter, Unknown}
 use Rattle.column.specs.Types.{widthOf, chapterKind}
 use Rattle.column.specs.Columns.{kind, width, isVariable, isChapter, isNullable}
-use Rattle.column.specs.Fields.{bytesAt, fieldAt}
-use Rattle.column.specs.Layout.{mostColumns}
-use Rattle.column.proofs.Laws.{bytes-short, bytes-fit, field-fixed, field-past, field-told}
+use Rattle.column.specs.Fields.{bytesAt, variableAt, fieldAt}
+use Rattle.column.proofs.Laws.{bytes-short, bytes-fit, field-variable, field-fixed, field-past, field-told}
 use Rattle.row.specs.Presence.{noColumn, one, presenceBytes, Mark, mark, marks, markOf, present, chapterPresent, clear}
 use Rattle.row.specs.Rows.{Place, place, past, reached, step, walk, arrive, opened, walked, Answer, field, null, chapter, fieldOf, columnOf, known, lookUp, lookUpRow}
 use Rattle.row.proofs.Laws.{present-chapter, present-always, step-absent}
 use Rattle.row.proofs.Found.{known-ok, opened-ok}
 use Rattle.plan.specs.declared.plan.Plan.{Plan}
-use Rattle.plan.specs.Plans.{isStop, stopsFrom, chapterBits, planOf, plannedColumn, plannedMark, plannedGap, visit, visits, stopsTo, jumped, unset, plannedKnown, plannedOpen, plannedAnswer, plannedLookUp, plannedRow}
-use Rattle.plan.proofs.Arrays.{plannedField, stopCount, Holds, more, planned-holds, count-planned, chapters-planned, column-planned, mark-planned, stops-planned}
+use Rattle.plan.specs.Packed.{bitIn, widthIn}
+use Rattle.plan.specs.Plans.{isStop, stopsFrom, chapterBits, planOf, Kept, plannedWord, plannedColumn, plannedMark, plannedGap, plannedMarked, fieldIn, passedVariable, passed, visit, visits, stopsTo, jumped, landed, unset, plannedKnown, plannedOpen, plannedAnswer, plannedLookUp, plannedRow}
+use Rattle.plan.proofs.Arrays.{plannedField, stopCount, Holds, more, planned-holds, count-planned, map-planned, chapters-planned, column-planned, width-planned, mark-planned, stops-planned}
 
 -- Readers one after the other.
 
@@ -86,6 +86,16 @@ module _ (c : Column) where
       go : (t : Bool) → isNullable c ≡ t → pick t true (isVariable c) ≡ false → (isNullable c ≡ false) × (isVariable c ≡ false)
       go true e y = never y
       go false e y = (e, y)
+
+-- a stop of fixed type is present where its bit is set
+stop-present : (row : Bytes) (c : Column) (b : ℕ) → isStop c ≡ true → isVariable c ≡ false → present row (mark c b) ≡ bitSet row b
+unfolding present isStop
+stop-present row c b h v = go (isChapter c) (isNullable c) (sym (ap (λ (t : Bool). pick (isChapter c) false (pick (isNullable c) true t)) v) ∙ h)
+  where
+    go : (t n : Bool) → pick t false (pick n true false) ≡ true → pick t false (pick n (bitSet row b) true) ≡ bitSet row b
+    go true n e = never (sym e)
+    go false true e = refl
+    go false false e = never (sym e)
 
 step-present :
     (has : Mark → Bool) (row : Bytes) (m : Mark) (v : Place) → has m ≡ true →
@@ -180,24 +190,76 @@ past-field c row p n = go (fieldAt c row p) refl
 
 module _ (p : Plan) (row : Bytes) (k : ℕ) where
   -- a stop: where the walk goes, the visit goes
-  visit-stop :
-      (c : Column) (i g b : ℕ) (w : Place) → i < k → isStop c ≡ true → plannedColumn p i ≡ c → plannedGap p i ≡ pick (isChapter c) 0 g → getD (p .bits) i 0 ≡ b →
-      standing row (w .at + g) (w .prefixes) >>= step (present row) row (mark c b)
-      ≡ visit p row k i w >>= (behind row)
-  unfolding visit
-  visit-stop c i g b w l h ec eg eb =
-      let gg : plannedGap p i ≡ g = eg ∙ ap (λ (t : Bool). pick t 0 g) (stop-plain c h) in
-      rw (lt-ltb i k l, ec, gg, eb, h) (go (present row (mark c b)) refl)
-    where
-      go :
-          (t : Bool) → present row (mark c b) ≡ t →
-          standing row (w .at + g) (w .prefixes) >>= step (present row) row (mark c b)
-          ≡ pick t (fieldAt c row (w .at + g) >>= (λ (f : Field). ok (past w f))) (ok (place (w .at + g) (w .prefixes)))
-          >>= (behind row)
-      go true e = step-there row (w .at + g) (w .prefixes) c b e ∙ past-field c row (w .at + g) (w .prefixes)
-      go false e =
-          let z : w .at + g ≡ w .at + g + 0 = omega arith in
-          step-missing row (w .at + g) (w .prefixes) c b e ∙ ap (λ (q : ℕ). standing row q (w .prefixes)) z
+  module _ (c : Column) (i g b : ℕ) (w : Place) (l : i < k) (h : isStop c ≡ true) (ec : plannedColumn p i ≡ c) (eg : plannedGap p i ≡ pick (isChapter c) 0 g) (eb : bitIn (plannedWord p i) ≡ b) (ew : widthIn (plannedWord p i) ≡ width c) where
+    visit-passed : visit p row k i w ≡ passed (plannedWord p i) row (place (w .at + g) (w .prefixes))
+    unfolding visit
+    visit-passed =
+        let gg : plannedGap p i ≡ g = eg ∙ ap (λ (t : Bool). pick t 0 g) (stop-plain c h) in
+        let s : isStop (plannedColumn p i) ≡ true = ap isStop ec ∙ h in
+        rw (lt-ltb i k l, s, gg) refl
+
+    -- one of variable length
+    passed-variable :
+        isVariable c ≡ true →
+        passed (plannedWord p i) row (place (w .at + g) (w .prefixes)) ≡ passedVariable c b row (place (w .at + g) (w .prefixes))
+    unfolding passed
+    passed-variable v =
+        let z : isVariable (plannedColumn p i) ≡ true = ap isVariable ec ∙ v in
+        rw z (ap (λ (d : Column). passedVariable d (bitIn (plannedWord p i)) row (place (w .at + g) (w .prefixes))) ec ∙ ap (λ (x : ℕ). passedVariable c x row (place (w .at + g) (w .prefixes))) eb)
+
+    stop-variable :
+        isVariable c ≡ true →
+        standing row (w .at + g) (w .prefixes) >>= step (present row) row (mark c b) ≡ passedVariable c b row (place (w .at + g) (w .prefixes)) >>= behind row
+    unfolding passedVariable
+    stop-variable v = go (present row (mark c b)) refl
+      where
+        go :
+            (t : Bool) → present row (mark c b) ≡ t →
+            standing row (w .at + g) (w .prefixes) >>= step (present row) row (mark c b)
+            ≡ pick t (variableAt c row (w .at + g) >>= (λ (f : Field). ok (past w f))) (ok (place (w .at + g) (w .prefixes)))
+            >>= behind row
+        go true e =
+            step-there row (w .at + g) (w .prefixes) c b e
+            ∙ past-field c row (w .at + g) (w .prefixes)
+            ∙ ap (λ (r : Read Field). (r >>= (λ (f : Field). ok (past (place (w .at + g) (w .prefixes)) f))) >>= behind row) (field-variable c row (w .at + g) v)
+        go false e =
+            let z : w .at + g ≡ w .at + g + 0 = omega arith in
+            step-missing row (w .at + g) (w .prefixes) c b e ∙ ap (λ (q : ℕ). standing row q (w .prefixes)) z
+
+    -- one of fixed type moves the position by its width where its bit is set, in the row or out of it
+    stop-fixed :
+        isVariable c ≡ false →
+        standing row (w .at + g) (w .prefixes) >>= step (present row) row (mark c b)
+        ≡ standing row (w .at + g + width c * one (bitSet row b) + 0) (w .prefixes)
+    stop-fixed v = go (bitSet row b) (stop-present row c b h v)
+      where
+        go :
+            (t : Bool) → present row (mark c b) ≡ t →
+            standing row (w .at + g) (w .prefixes) >>= step (present row) row (mark c b) ≡ standing row (w .at + g + width c * one t + 0) (w .prefixes)
+        go true e =
+            let z : w .at + g + width c ≡ w .at + g + width c * 1 + 0 = omega arith in
+            step-there row (w .at + g) (w .prefixes) c b e
+            ∙ ap (λ (r : Read Field). r >>= (λ (f : Field). ok (past (place (w .at + g) (w .prefixes)) f))) (field-fixed c row (w .at + g) v)
+            ∙ past-bytes row (w .at + g) (w .prefixes) (width c)
+            ∙ ap (λ (q : ℕ). standing row q (w .prefixes)) z
+        go false e =
+            let z : w .at + g ≡ w .at + g + width c * 0 + 0 = omega arith in
+            step-missing row (w .at + g) (w .prefixes) c b e ∙ ap (λ (q : ℕ). standing row q (w .prefixes)) z
+
+    passed-fixed :
+        isVariable c ≡ false →
+        passed (plannedWord p i) row (place (w .at + g) (w .prefixes)) ≡ ok (place (w .at + g + width c * one (bitSet row b)) (w .prefixes))
+    unfolding passed
+    passed-fixed v =
+        let z : isVariable (plannedColumn p i) ≡ false = ap isVariable ec ∙ v in
+        rw (z, eb, ew) refl
+
+    visit-stop : standing row (w .at + g) (w .prefixes) >>= step (present row) row (mark c b) ≡ visit p row k i w >>= behind row
+    visit-stop = go (isVariable c) refl
+      where
+        go : (v : Bool) → isVariable c ≡ v → standing row (w .at + g) (w .prefixes) >>= step (present row) row (mark c b) ≡ visit p row k i w >>= behind row
+        go true v = stop-variable v ∙ ap (λ (r : Read Place). r >>= behind row) (sym (visit-passed ∙ passed-variable v))
+        go false v = stop-fixed v ∙ ap (λ (r : Read Place). r >>= behind row) (sym (visit-passed ∙ passed-fixed v))
 
   -- the last column: its own gap, then its field
   abbrev landing : Place → Read Field
@@ -210,13 +272,13 @@ module _ (p : Plan) (row : Bytes) (k : ℕ) where
       ≡ visits p row k (take (stopCount cs j) (stopsFrom i cs)) w >>= landing
   unfolding walk marks visits stopCount stopsFrom
   lands [] i g b j w o e h x = absurd (omega arith)
-  lands (c ∷ cs) i g b zero w (more ec eg eb o) e h x =
+  lands (c ∷ cs) i g b zero w (more ec eg eb ew o) e h x =
       let z : k ≡ i = omega arith in
       let y : plannedColumn p k ≡ c = ap (plannedColumn p) z ∙ ec in
       let u : plannedGap p k ≡ g = ap (plannedGap p) z ∙ eg ∙ ap (λ (t : Bool). pick t 0 g) x in
       arrive-standing row (w .at + g) (w .prefixes) c
       ∙ sym (ap (λ (d : Column). arrive d row (place (w .at + plannedGap p k) (w .prefixes))) y ∙ ap (λ (q : ℕ). arrive c row (place (w .at + q) (w .prefixes))) u)
-  lands (c ∷ cs) i g b (suc j) w (more ec eg eb o) e h x =
+  lands (c ∷ cs) i g b (suc j) w (more ec eg eb ew o) e h x =
       regroup (standing row (w .at + g) (w .prefixes)) (step (present row) row (mark c b)) (walk (present row) row j (marks (b + one (isNullable c)) cs))
       (arrive (getD cs j noColumn) row)
       ∙ go (isStop c) refl (λ g v y. lands cs (suc i) g (b + one (isNullable c)) j v y (omega arith) (omega arith) x) o
@@ -232,7 +294,7 @@ module _ (p : Plan) (row : Bytes) (k : ℕ) where
           (standing row (w .at + g) (w .prefixes) >>= step (present row) row (mark c b)) >>= rest
           ≡ visits p row k (take (pick t (suc (stopCount cs j)) (stopCount cs j)) (pick t (i ∷ stopsFrom (suc i) cs) (stopsFrom (suc i) cs))) w >>= landing
       go true s r y =
-          ap (λ (q : Read Place). q >>= rest) (visit-stop c i g b w (omega arith) s ec eg eb)
+          ap (λ (q : Read Place). q >>= rest) (visit-stop c i g b w (omega arith) s ec eg eb ew)
           ∙ bind-bind (visit p row k i w) (behind row) rest
           ∙ bind-same (visit p row k i w) _ _ (λ v. r 0 v y)
           ∙ sym (bind-bind (visit p row k i w) (visits p row k (take (stopCount cs j) (stopsFrom (suc i) cs))) landing)
@@ -260,26 +322,35 @@ unset-alike row (m ∷ ms) = go (isChapter (m .column)) (isNullable (m .column))
     go true false r = r
     go false n r = r
 
-module _ (cs : List Column) (few : length cs ≤ mostColumns) where
+module _ (cs : List Column) (kept : Kept cs) where
   pub known-alike : (k : ℕ) → plannedKnown (planOf cs) k ≡ known cs k
   unfolding plannedKnown known
-  known-alike k = ap (λ (n : ℕ). about input.Column (check (ltb k n) 18 0)) (count-planned cs few)
+  known-alike k = ap (λ (n : ℕ). about input.Column (check (ltb k n) 18 0)) (count-planned cs kept)
 
   -- a row opens by the plan as by the columns
   pub opens-alike : (row : Bytes) → plannedOpen (planOf cs) row ≡ opened cs row 0
-  unfolding plannedOpen opened planOf
+  unfolding plannedOpen opened
   opens-alike row =
-      ap (λ (l : List ℕ). whole row 0 (presenceBytes cs) >>= (λ (s : ℕ). unset row l >>= (λ _. ok s))) (chapters-planned cs few)
+      ap (λ (n : ℕ). whole row 0 n >>= (λ (s : ℕ). unset row (plannedMarked (planOf cs)) >>= (λ _. ok s))) (map-planned cs kept)
+      ∙ ap (λ (l : List ℕ). whole row 0 (presenceBytes cs) >>= (λ (s : ℕ). unset row l >>= (λ _. ok s))) (chapters-planned cs kept)
       ∙ ap (λ (r : Read (Unit {0})). whole row 0 (presenceBytes cs) >>= (λ (s : ℕ). r >>= (λ _. ok s))) (unset-alike row (marks 0 cs))
 
   module _ (row : Bytes) (k : ℕ) (known : k < length cs) (map : presenceBytes cs ≤ length row) where
-    field-alike : isChapter (getD cs k noColumn) ≡ false → jumped (planOf cs) row k >>= arrive (plannedColumn (planOf cs) k) row ≡ fieldOf cs row k
+    -- the field of the width held is the column's
+    landed-alike : (w : Place) → landed (plannedWord (planOf cs) k) row w ≡ arrive (plannedColumn (planOf cs) k) row w
+    unfolding landed arrive fieldIn fieldAt
+    landed-alike w =
+        let e : widthIn (plannedWord (planOf cs) k) ≡ width (plannedColumn (planOf cs) k) = width-planned cs kept k known ∙ sym (ap width (column-planned cs kept k known)) in
+        rw e refl
+
+    field-alike : isChapter (getD cs k noColumn) ≡ false → jumped (planOf cs) row k >>= landed (plannedWord (planOf cs) k) row ≡ fieldOf cs row k
     unfolding jumped fieldOf walked
     field-alike x =
-        let l = lands (planOf cs) row k cs 0 (presenceBytes cs) 0 k (place 0 0) (planned-holds cs few) (omega arith) known x in
-        bind-bind (visits (planOf cs) row k (stopsTo (planOf cs) k) (place 0 0)) (λ (w : Place). ok (place (w .at + plannedGap (planOf cs) k) (w .prefixes)))
+        let l = lands (planOf cs) row k cs 0 (presenceBytes cs) 0 k (place 0 0) (planned-holds cs kept) (omega arith) known x in
+        bind-same (jumped (planOf cs) row k) (landed (plannedWord (planOf cs) k) row) (arrive (plannedColumn (planOf cs) k) row) landed-alike
+        ∙ bind-bind (visits (planOf cs) row k (stopsTo (planOf cs) k) (place 0 0)) (λ (w : Place). ok (place (w .at + plannedGap (planOf cs) k) (w .prefixes)))
         (arrive (plannedColumn (planOf cs) k) row)
-        ∙ ap (λ (l : List ℕ). visits (planOf cs) row k l (place 0 0) >>= landing (planOf cs) row k) (stops-planned cs few k known)
+        ∙ ap (λ (l : List ℕ). visits (planOf cs) row k l (place 0 0) >>= landing (planOf cs) row k) (stops-planned cs kept k known)
         ∙ sym l
         ∙ ap (λ (r : Read Place). r >>= (λ (v : Place). walk (present row) row k (marks 0 cs) v >>= arrive (getD cs k noColumn) row))
         (standing-in row (0 + presenceBytes cs) 0 (omega arith))
@@ -291,7 +362,7 @@ module _ (cs : List Column) (few : length cs ≤ mostColumns) where
         (λ (c : Column).
         pick (isChapter c) (ok chapter)
         (pick (present row (plannedMark (planOf cs) k)) (plannedField (planOf cs) row k) (ok null)))
-        (column-planned cs few k known)
+        (column-planned cs kept k known)
         ∙ go (isChapter (getD cs k noColumn)) refl
       where
         go :
@@ -301,26 +372,26 @@ module _ (cs : List Column) (few : length cs ≤ mostColumns) where
             ≡ pick t (ok chapter) (pick (present row (markOf cs k)) (fieldOf cs row k >>= (λ (f : Field). ok (field f))) (ok null))
         go true e = refl
         go false e =
-            ap (λ (m : Mark). pick (present row m) (plannedField (planOf cs) row k) (ok null)) (mark-planned cs few k known)
+            ap (λ (m : Mark). pick (present row m) (plannedField (planOf cs) row k) (ok null)) (mark-planned cs kept k known)
             ∙ ap (λ (r : Read Answer). pick (present row (markOf cs k)) r (ok null))
-            (sym (bind-bind (jumped (planOf cs) row k) (arrive (plannedColumn (planOf cs) k) row) (λ (f : Field). ok (field f)))
+            (sym (bind-bind (jumped (planOf cs) row k) (landed (plannedWord (planOf cs) k) row) (λ (f : Field). ok (field f)))
             ∙ ap (λ (r : Read Field). r >>= (λ (f : Field). ok (field f))) (field-alike e))
 
 -- The jump: the whole answer of the walk, for every row and every number of a column.
-pub jump : (cs : List Column) (row : Bytes) (k : ℕ) → length cs ≤ mostColumns → plannedLookUp (planOf cs) row k ≡ lookUp cs row k
+pub jump : (cs : List Column) (row : Bytes) (k : ℕ) → Kept cs → plannedLookUp (planOf cs) row k ≡ lookUp cs row k
 unfolding plannedLookUp lookUp
-jump cs row k few =
+jump cs row k kept =
     ap (λ (r : Read (Unit {0})). r >>= (λ _. about input.Row (plannedOpen (planOf cs) row) >>= (λ _. about input.Row (plannedAnswer (planOf cs) row k))))
-    (known-alike cs few k)
+    (known-alike cs kept k)
     ∙ bind-when (known cs k) _ _
     (λ u e.
-    ap (λ (r : Read ℕ). about input.Row r >>= (λ _. about input.Row (plannedAnswer (planOf cs) row k))) (opens-alike cs few row)
+    ap (λ (r : Read ℕ). about input.Row r >>= (λ _. about input.Row (plannedAnswer (planOf cs) row k))) (opens-alike cs kept row)
     ∙ bind-when (about input.Row (opened cs row 0)) _ _
     (λ s f.
     let (x, y, z) = opened-ok cs row 0 s (about-ok input.Row (opened cs row 0) s f) in
-    ap (about input.Row) (answer-alike cs few row k (known-ok cs k u e) (omega arith))))
+    ap (about input.Row) (answer-alike cs kept row k (known-ok cs k u e) (omega arith))))
 
 -- in any row
-pub jump-row : (cs : List Column) (row : Bytes) (k : ℕ) → length cs ≤ mostColumns → plannedRow (planOf cs) row k ≡ lookUpRow cs row k
+pub jump-row : (cs : List Column) (row : Bytes) (k : ℕ) → Kept cs → plannedRow (planOf cs) row k ≡ lookUpRow cs row k
 unfolding plannedRow lookUpRow
-jump-row cs row k few = bind-same (about input.Row (sized row)) _ _ (λ _. jump cs row k few)
+jump-row cs row k kept = bind-same (about input.Row (sized row)) _ _ (λ _. jump cs row k kept)

@@ -1,3 +1,4 @@
+pub mod Packed
 pub mod Laws
 pub mod Arrays
 pub mod Jump

@@ -1,7 +1,6 @@
 -- The ways out of the place that a plan names.
 -- Assumes nothing.
 use Prim.Native.Nat.{ℕ, zero, suc, _+_, _-_, _≤_, _<_}
-use mathlib.Core.List.{[]}
 use mathlib.Core.Bool.{Bool, true, false}
 use mathlib.Core.Path.{_≡_, refl, sym, ap, _∙_}
 use native.Mathlib.Omega.{arith}
@@ -12,7 +11,6 @@ use Rattle.column.specs.declared.column.Column.{Column}
 use Rattle.column.specs.Columns.{isChapter, prefixBytes}
 use Rattle.plan.specs.declared.plan.Plan.{Plan}
 use Rattle.plan.specs.Plans.{isStop, plannedColumn, plannedGap, plannedCount, plannedKnown, fixed, moving, noStops, fixedPlace}
-use Rattle.plan.specs.Lent.{lent}
 
 -- what was asked of a plan's column
 pub column-asked : {A : Type 0} (g : Column → A) (p : Plan) (k : ℕ) (c : Column) (r : A) → c ≡ plannedColumn p k → r ≡ g c → g (plannedColumn p k) ≡ r
@@ -39,12 +37,6 @@ module _ (p : Plan) where
     -- it is none
     pub stops-less : isStop (plannedColumn p (i - 1)) ≡ false → noStops p i ≡ noStops p (i - 1)
     stops-less e = one-less i h ∙ rw e refl
-
--- they are found by the plan's columns alone
-pub stops-lent : (p : Plan) (k : ℕ) → noStops (lent (p .codes) (p .flags) (p .maxima) [] []) k ≡ noStops p k
-unfolding noStops
-stops-lent p zero = refl
-stops-lent p (suc k) = ap (λ (t : Bool). pick (isStop (plannedColumn p k)) false t) (stops-lent p k)
 
 -- The place of a column.
 

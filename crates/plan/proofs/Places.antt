@@ -13,12 +13,11 @@ use Rattle.wire.proofs.Pieces.{bad-ok, bind-ok, ok-ok}
 use Rattle.column.specs.declared.column.Column.{Column}
 use Rattle.column.specs.declared.field.Field.{Field}
 use Rattle.column.specs.Columns.{width, isVariable, isChapter, isNullable, prefixBytes}
-use Rattle.column.specs.Layout.{mostColumns}
 use Rattle.column.proofs.Laws.{field-told}
 use Rattle.row.specs.Presence.{noColumn, one, presenceBytes, mark, marks, present}
 use Rattle.row.specs.Rows.{Place, place, step, walk, walked, field, known, lookUp}
 use Rattle.row.proofs.Found.{known-ok, opened-ok, look-up-told}
-use Rattle.plan.specs.Plans.{isStop, gapsFrom, planOf, plannedColumn, plannedGap, fixed, noStops, fixedPlace}
+use Rattle.plan.specs.Plans.{isStop, gapsFrom, planOf, Kept, plannedColumn, plannedGap, fixed, noStops, fixedPlace}
 use Rattle.plan.specs.Places.{isSteady, allSteady, widths, placeOf}
 use Rattle.plan.proofs.Arrays.{column-planned, gap-planned}
 use Rattle.plan.proofs.Jump.{bind-when, bind-bind, known-alike, standing, standing-in, standing-here, step-quiet}
@@ -77,12 +76,12 @@ same-place true t e = refl
 same-place false true e = ap fixed (e refl refl)
 same-place false false e = refl
 
-module _ (cs : List Column) (few : length cs ≤ mostColumns) where
+module _ (cs : List Column) (kept : Kept cs) where
   stops-steady : (k : ℕ) → k ≤ length cs → noStops (planOf cs) k ≡ allSteady (take k cs)
   unfolding noStops allSteady
   stops-steady zero h = refl
   stops-steady (suc k) h =
-      ap (λ (c : Column). pick (isStop c) false (noStops (planOf cs) k)) (column-planned cs few k h)
+      ap (λ (c : Column). pick (isStop c) false (noStops (planOf cs) k)) (column-planned cs kept k h)
       ∙ ap (λ (t : Bool). pick (isStop (getD cs k noColumn)) false t) (stops-steady k (omega arith))
       ∙ sym (steady-suc cs k h)
 
@@ -91,21 +90,21 @@ module _ (cs : List Column) (few : length cs ≤ mostColumns) where
       placeBy (isChapter (plannedColumn (planOf cs) k)) (noStops (planOf cs) k) (plannedGap (planOf cs) k + prefixBytes (plannedColumn (planOf cs) k))
       ≡ placeBy (isChapter (getD cs k noColumn)) (allSteady (take k cs)) (presenceBytes cs + widths (take k cs) + prefixBytes (getD cs k noColumn))
   column-exact k h =
-      ap (λ (c : Column). placeBy (isChapter c) (noStops (planOf cs) k) (plannedGap (planOf cs) k + prefixBytes c)) (column-planned cs few k h)
+      ap (λ (c : Column). placeBy (isChapter c) (noStops (planOf cs) k) (plannedGap (planOf cs) k + prefixBytes c)) (column-planned cs kept k h)
       ∙ ap (λ (t : Bool). placeBy (isChapter (getD cs k noColumn)) t (plannedGap (planOf cs) k + prefixBytes (getD cs k noColumn))) (stops-steady k (omega arith))
       ∙ same-place (isChapter (getD cs k noColumn)) (allSteady (take k cs))
-      (λ x y. ap (λ (g : ℕ). g + prefixBytes (getD cs k noColumn)) (gap-planned cs few k h ∙ gap-steady (presenceBytes cs) cs k h x y))
+      (λ x y. ap (λ (g : ℕ). g + prefixBytes (getD cs k noColumn)) (gap-planned cs kept k h ∙ gap-steady (presenceBytes cs) cs k h x y))
 
 -- The plan of some columns names the paper's places.
-pub place-exact : (cs : List Column) (k : ℕ) → length cs ≤ mostColumns → fixedPlace (planOf cs) k ≡ placeOf cs k
+pub place-exact : (cs : List Column) (k : ℕ) → Kept cs → fixedPlace (planOf cs) k ≡ placeOf cs k
 unfolding fixedPlace placeOf
-place-exact cs k few =
+place-exact cs k kept =
     ap
     (λ (r : Read (Unit {0})).
     r >>= (λ _.
     ok (placeBy (isChapter (plannedColumn (planOf cs) k)) (noStops (planOf cs) k) (plannedGap (planOf cs) k + prefixBytes (plannedColumn (planOf cs) k)))))
-    (known-alike cs few k)
-    ∙ bind-when (known cs k) _ _ (λ u e. ap ok (column-exact cs few k (known-ok cs k u e)))
+    (known-alike cs kept k)
+    ∙ bind-when (known cs k) _ _ (λ u e. ap ok (column-exact cs kept k (known-ok cs k u e)))
 
 -- The walk finds fields there.
 

@@ -1,3 +1,4 @@
+pub mod Packed
 pub mod Plans
 pub mod Places
 pub mod Handles

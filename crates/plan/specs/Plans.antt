@@ -1,7 +1,7 @@
 -- Column plans (document 01, "Looking up a field"): what a plan holds of the columns of a schema, and the look-up through it (the
 -- paper's plan route), which jumps from stop to stop.
 -- Assumes nothing.
-use Prim.Native.Nat.{ℕ, zero, suc, _+_, _/_, min}
+use Prim.Native.Nat.{ℕ, zero, suc, _+_, _*_, _/_, _≤_, _<_, min}
 use mathlib.Core.List.{List, [], _∷_, map}
 use mathlib.Core.Bool.{Bool, true, false, not}
 use lib.ListN.{length, getD}
@@ -10,12 +10,14 @@ use Rattle.wire.specs.declared.error.Input.the-variants as input
 use Rattle.wire.specs.Read.{Bytes, Read, ok, _>>=_, pick, check, about, sized, whole}
 use Rattle.wire.specs.Bits.{bitSet}
 use Rattle.column.specs.declared.column.Column.{Column}
+use Rattle.column.specs.declared.field.Field.{Field}
 use Rattle.column.specs.Columns.{width, isVariable, isChapter, isNullable, prefixBytes}
-use Rattle.column.specs.Fields.{fieldAt}
-use Rattle.column.specs.Layout.{mostColumns, padded, columnIn}
-use Rattle.row.specs.Presence.{noColumn, presenceBytes, Mark, mark, marks, present}
-use Rattle.row.specs.Rows.{Place, place, past, arrive, Answer, field, null, chapter}
+use Rattle.column.specs.Fields.{bytesAt, variableAt}
+use Rattle.column.specs.Layout.{mostColumns}
+use Rattle.row.specs.Presence.{noColumn, one, presenceBytes, Mark, mark, marks, present}
+use Rattle.row.specs.Rows.{Place, place, past, reached, Answer, field, null, chapter}
 use Rattle.plan.specs.declared.plan.Plan.{Plan}
+use Rattle.plan.specs.Packed.{packed, unpacked, gapIn, bitIn, widthIn, beforeIn, stopIn, markedIn, listNumbers, tabled, laid}
 
 -- A stop: a column that is no chapter and is nullable or of variable length. Behind it places depend on the row.
 unfoldable pub isStop : Column → Bool
@@ -57,46 +59,74 @@ chapterBits (m ∷ ms) = pick (isChapter (m .column)) (pick (isNullable (m .colu
 unfoldable pub planOf : List Column → Plan
 planOf cs =
     record {
-      count = length cs;
-      map = presenceBytes cs;
-      chapters = length (chapterBits (marks 0 cs));
-      codes = padded mostColumns (map (λ (c : Column). c .code) cs);
-      flags = padded mostColumns (map (λ (c : Column). c .flags) cs);
-      maxima = padded mostColumns (map (λ (c : Column). c .maximum) cs);
-      gaps = padded mostColumns (gapsOf cs);
-      bits = padded mostColumns (bitsOf cs);
-      before = padded mostColumns (stopsBefore 0 cs);
-      stops = padded mostColumns (stopsFrom 0 cs);
-      marked = padded mostColumns (chapterBits (marks 0 cs));
+      numbers =
+          laid (λ (i : ℕ). packed (getD cs i noColumn) (getD (gapsOf cs) i 0) (getD (bitsOf cs) i 0))
+          (listNumbers (stopsBefore 0 cs) (stopsFrom 0 cs) (chapterBits (marks 0 cs))) (length cs) (presenceBytes cs) (length (chapterBits (marks 0 cs)));
     }
 
--- Any plan: column i, with the bit that it holds for it.
+-- Columns as code has them: at most 64, and each of their numbers fits the byte or the two that it is kept in.
+pub record Kept (cs : List Column) : Type 0 where
+  pub few : length cs ≤ mostColumns
+  pub code : (i : ℕ) → getD cs i noColumn .code < 256
+  pub flags : (i : ℕ) → getD cs i noColumn .flags < 256
+  pub maximum : (i : ℕ) → getD cs i noColumn .maximum < 65536
+
+-- Any plan: the number of column i; the column, its bit and its gap.
+abbrev pub plannedWord : Plan → ℕ → ℕ
+plannedWord p i = getD (p .numbers) i 0
+
 abbrev pub plannedColumn : Plan → ℕ → Column
-plannedColumn p i = columnIn (p .codes) (p .flags) (p .maxima) i
+plannedColumn p i = unpacked (plannedWord p i)
 
 abbrev pub plannedMark : Plan → ℕ → Mark
-plannedMark p i = mark (plannedColumn p i) (getD (p .bits) i 0)
+plannedMark p i = mark (plannedColumn p i) (bitIn (plannedWord p i))
 
 abbrev pub plannedGap : Plan → ℕ → ℕ
-plannedGap p i = getD (p .gaps) i 0
+plannedGap p i = gapIn (plannedWord p i)
 
--- how many columns a plan has: no more than its arrays
+-- number j of its lists
+abbrev pub plannedList : Plan → ℕ → ℕ
+plannedList p j = getD (p .numbers) (64 + j) 0
+
+-- how many columns it has: no more than it has numbers for; the bytes of its map
 abbrev pub plannedCount : Plan → ℕ
-plannedCount p = min (p .count) mostColumns
+plannedCount p = min (getD (p .numbers) 128 0) mostColumns
 
--- A column on the way to column k: where it is a stop before k, the way goes to the end of its field, or of the gap in front of it
--- where it has none; any other column moves nothing.
+abbrev pub plannedMap : Plan → ℕ
+plannedMap p = getD (p .numbers) 129 0
+
+-- the stops that it lists before column k
+abbrev pub stopsTo : Plan → ℕ → List ℕ
+stopsTo p k = tabled (λ (j : ℕ). stopIn (plannedList p j)) (min (beforeIn (plannedList p k)) mostColumns) 0
+
+-- the bits of nullable chapters that it lists
+abbrev pub plannedMarked : Plan → List ℕ
+plannedMarked p = tabled (λ (j : ℕ). markedIn (plannedList p j)) (min (getD (p .numbers) 130 0) mostColumns) 0
+
+-- The field at a position of a column that a plan holds as number n: of variable length by its type, else of the width held.
+unfoldable pub fieldIn : (n : ℕ) → Bytes → (at : ℕ) → Read Field
+fieldIn n row at = pick (isVariable (unpacked n)) (variableAt (unpacked n) row at) (bytesAt row at (widthIn n) 0)
+
+-- past a stop of variable length with this bit: past its field, where it has one
+unfoldable pub passedVariable : Column → (bit : ℕ) → Bytes → Place → Read Place
+passedVariable c bit row w =
+    pick (present row (mark c bit))
+    (do
+      f ← variableAt c row (w .at)
+      ok (past w f))
+    (ok w)
+
+-- Past the stop that a plan holds as number n. One of fixed type has its width where its bit is set, in the row or not: a field that
+-- lacks bytes lacks them at the row's end, where any field behind it does too.
+unfoldable pub passed : (n : ℕ) → Bytes → Place → Read Place
+passed n row w =
+    pick (isVariable (unpacked n)) (passedVariable (unpacked n) (bitIn n) row w)
+    (ok (place (w .at + widthIn n * one (bitSet row (bitIn n))) (w .prefixes)))
+
+-- A column on the way to column k: where it is a stop before k, the way goes over its gap and past it; any other column moves nothing.
 unfoldable pub visit : Plan → Bytes → (k : ℕ) → ℕ → Place → Read Place
 visit p row k i w =
-    pick (ltb i k)
-    (pick (isStop (plannedColumn p i))
-    (pick (present row (plannedMark p i))
-    (do
-      f ← fieldAt (plannedColumn p i) row (w .at + plannedGap p i)
-      ok (past w f))
-    (ok (place (w .at + plannedGap p i) (w .prefixes))))
-    (ok w))
-    (ok w)
+    pick (ltb i k) (pick (isStop (plannedColumn p i)) (passed (plannedWord p i) row (place (w .at + plannedGap p i) (w .prefixes))) (ok w)) (ok w)
 
 -- the way over these columns, one after the other
 unfoldable pub visits : Plan → Bytes → (k : ℕ) → List ℕ → Place → Read Place
@@ -105,15 +135,17 @@ visits p row k (i ∷ is) w = do
   v ← visit p row k i w
   visits p row k is v
 
--- the stops that a plan lists before column k
-abbrev pub stopsTo : Plan → ℕ → List ℕ
-stopsTo p k = padded (min (getD (p .before) k 0) mostColumns) (p .stops)
-
--- the field of column k: from the row's start over the stops before it, then its gap
+-- where column k stands: from the row's start over the stops before it, then its gap
 unfoldable pub jumped : Plan → Bytes → ℕ → Read Place
 jumped p row k = do
   w ← visits p row k (stopsTo p k) (place 0 0)
   ok (place (w .at + plannedGap p k) (w .prefixes))
+
+-- its field there
+unfoldable pub landed : (n : ℕ) → Bytes → Place → Read Field
+landed n row w = do
+  f ← fieldIn n row (w .at)
+  ok (reached w f)
 
 -- no listed bit is set; else error 12, at the byte of the first that is
 unfoldable pub unset : Bytes → List ℕ → Read (Unit {0})
@@ -129,8 +161,8 @@ plannedKnown p k = about input.Column (check (ltb k (plannedCount p)) 18 0)
 -- a row opens by a plan: its map is whole (1), no chapter's bit is set (12); where its data start
 unfoldable pub plannedOpen : Plan → Bytes → Read ℕ
 plannedOpen p row = do
-  start ← whole row 0 (p .map)
-  _ ← unset row (padded (min (p .chapters) mostColumns) (p .marked))
+  start ← whole row 0 (plannedMap p)
+  _ ← unset row (plannedMarked p)
   ok start
 
 -- column k of a row that opens: a chapter, null, or its field
@@ -140,7 +172,7 @@ plannedAnswer p row k =
     (pick (present row (plannedMark p k))
     (do
       w ← jumped p row k
-      f ← arrive (plannedColumn p k) row w
+      f ← landed (plannedWord p k) row w
       ok (field f))
     (ok null))
 

@@ -1,12 +1,11 @@
 // The fixed place of a column's field, which a plan names without any row.
 ghost use mathlib.Core.Path.{_≡_};
-ghost use mathlib.Core.List.{[]};
 ghost use Prim.Native.Nat.{_≤_, _<_};
 ghost use Rattle.plan.specs.Plans.{noStops, fixedPlace};
 ghost use Rattle.plan.specs.Lent.{lent};
 ghost use Rattle.plan.specs.Told.{toldPlace};
-use crate::column_of;
-use crate::gap_size;
+use crate::column_in;
+use crate::gap_in;
 use crate::look::is_stop;
 use crate::plan::Plan;
 use wire::error::Error;
@@ -21,14 +20,14 @@ pub enum PlaceRead {
     Refused(Error),
 }
 
-// Whether none of the first `k` columns is a stop.
-fn no_stops<'a>(codes: &'a [u8; 64], flags: &'a [u8; 64], maxima: &'a [u16; 64], k: usize) -> bool
+// Whether none of the first `k` columns of a plan's numbers is a stop.
+fn no_stops(plan: &[usize; 131], k: usize) -> bool
     requires { ⌜ k ≤ 64 ⌝ }
-    ensures { λ r. ⌜ r ≡ noStops (lent (now (codes .entry)) (now (flags .entry)) (now (maxima .entry)) [] []) k ⌝ }
+    ensures { λ r. ⌜ r ≡ noStops (lent (now (plan .entry))) k ⌝ }
 {
     let mut i = k;
     while 0 < i {
-        if is_stop(column_of(codes, flags, maxima, i - 1)) {
+        if is_stop(column_in(plan[i - 1])) {
             return false;
         }
         i -= 1;
@@ -40,20 +39,20 @@ fn no_stops<'a>(codes: &'a [u8; 64], flags: &'a [u8; 64], maxima: &'a [u16; 64],
 pub fn fixed_place(plan: Plan, k: usize) -> PlaceRead
     ensures { λ r. ⌜ toldPlace r ≡ fixedPlace plan k ⌝ }
 {
-    let n = lesser(plan.count, 64);
-    if n <= k {
+    if lesser(plan.numbers[128], 64) <= k {
         return PlaceRead::Refused(Error {
             kind: ErrorKind::Missing,
             offset: 0,
             input: Input::Column,
         });
     }
-    let column = column_of(&plan.codes, &plan.flags, &plan.maxima, k);
+    let word = plan.numbers[k];
+    let column = column_in(word);
     if column.is_chapter() {
         return PlaceRead::Moving;
     }
-    if no_stops(&plan.codes, &plan.flags, &plan.maxima, k) {
-        return PlaceRead::Fixed(gap_size(plan.gaps[k]) + column.prefix_bytes());
+    if no_stops(&plan.numbers, k) {
+        return PlaceRead::Fixed(gap_in(word) + column.prefix_bytes());
     }
     PlaceRead::Moving
 }

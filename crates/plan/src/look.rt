@@ -1,24 +1,35 @@
-// Look-up through a plan: from stop to stop, then to the column.
+// Look-up through a plan: from stop to stop, then to the column. A look-up is lent the plan's numbers, so that none of them is copied.
 ghost use mathlib.Core.Path.{_≡_};
-ghost use Prim.Native.Nat.{_≤_, _<_, min};
+ghost use mathlib.Core.Bool.{true};
+ghost use Prim.Native.Nat.{_≤_, _<_, _+_};
 ghost use lib.ListN.{length};
+ghost use lib.Dec.{eqb};
 ghost use Rattle.wire.specs.Read.{toldMatch, about};
-ghost use Rattle.wire.specs.Integers.{toldInt};
+ghost use Rattle.wire.specs.Integers.{readInt, toldInt};
 ghost use Rattle.wire.specs.declared.error.Input.the-variants as input;
-ghost use Rattle.column.specs.Layout.{padded};
+ghost use Rattle.wire.specs.declared.integer.IntRead.the-variants as int;
+ghost use Rattle.column.specs.Columns.{isVariable, prefixSize, lengthError};
+ghost use Rattle.column.specs.Fields.{variableAt};
+ghost use Rattle.row.specs.Presence.{mark, present};
 ghost use Rattle.row.specs.Rows.{place};
 ghost use Rattle.row.specs.declared.rows.LookUp.the-variants as look;
 ghost use Rattle.row.specs.Parts.{partOf};
 ghost use Rattle.row.specs.Told.{toldWalk, toldLookUp};
-ghost use Rattle.plan.specs.Plans.{isStop, visit, visits, jumped, unset, plannedOpen, plannedAnswer, plannedRow};
-ghost use Rattle.plan.specs.Handles.{openedRow, handled};
-ghost use Rattle.plan.specs.Lent.{lent, lentWay, lentMap, parts, Near, Small, Lies, asked};
-use crate::gap_size;
+ghost use Rattle.plan.specs.Packed.{stopIn, markedIn, tabled};
+ghost use Rattle.plan.specs.Plans.{isStop, plannedList, fieldIn, passedVariable, visit, visits, jumped, unset, plannedOpen, plannedAnswer, plannedRow};
+ghost use Rattle.plan.specs.Handles.{openedRow, countsOpened, handled};
+ghost use Rattle.plan.specs.Lent.{lent, Near, Small, Lies, endOf, lengthOf, foundIn, asked, startChecked};
+use crate::bit_in;
+use crate::column_in;
+use crate::gap_in;
+use crate::one;
 use crate::plan::Plan;
+use crate::width_in;
 use column::column::Column;
 use column::field::Field;
 use column::field::FieldRead;
 use column::field::field_at;
+use column::types::ColumnType;
 use row::rows::LookUp;
 use row::rows::WalkRead;
 use row::rows::is_present;
@@ -33,6 +44,9 @@ use wire::integer::IntRead;
 use wire::integer::wide;
 use wire::lesser;
 
+// The start of a row that was not opened: more than any row has.
+pub const NOT_OPENED: usize = 18_446_744_073_709_551_615;
+
 // Whether places behind a column depend on the row.
 pub fn is_stop(column: Column) -> bool
     ensures { λ r. ⌜ r ≡ isStop column ⌝ }
@@ -46,13 +60,104 @@ pub fn is_stop(column: Column) -> bool
     column.is_variable()
 }
 
-// Column `i` on the way to column `k`, from a position with so many prefixes.
-fn visit<'a>(
-    codes: &'a [u8; 64],
-    flags: &'a [u8; 64],
-    maxima: &'a [u16; 64],
-    gaps: &'a [u16; 64],
-    bits: &'a [u8; 64],
+// Whether a field of a column of variable length may have this length.
+fn allows(column: Column, length: usize) -> bool
+    ensures { λ r. ⌜ (isVariable column ≡ true → r ≡ eqb (lengthError column length) 0) × (r ≡ true → length < 131072) ⌝ }
+{
+    let maximum = column.maximum as usize;
+    if column.code == ColumnType::WSTR {
+        if 2 * maximum < length {
+            return false;
+        }
+        return length % 2 == 0;
+    }
+    length <= maximum
+}
+
+// Where a field of variable length starts, and its length; more than any column allows where no length is there.
+struct Prefix {
+    pub start: usize,
+    pub length: usize,
+}
+
+// The length in front of such a field, which stands at `at`.
+fn prefix_in(column: Column, row: &[u8], at: usize) -> Prefix
+    ensures { λ r. ⌜ (r .length ≡ lengthOf (readInt (now (row .entry)) at (prefixSize column))) × (r .length < 131072 → r .start ≡ at + prefixSize column) ⌝ }
+{
+    if column.maximum < 256 {
+        if row.len() <= at {
+            return Prefix {
+                start: 0,
+                length: 4294967296,
+            };
+        }
+        return Prefix {
+            start: at + 1,
+            length: wide(row[at]),
+        };
+    }
+    if lacks(row.len(), at, 4) {
+        return Prefix {
+            start: 0,
+            length: 4294967296,
+        };
+    }
+    Prefix {
+        start: at + 4,
+        length: wide(row[at])
+            + 256 * (wide(row[at + 1]) + 256 * (wide(row[at + 2]) + 256 * wide(row[at + 3]))),
+    }
+}
+
+// Where a field of variable length ends whose prefix stands at `at`; 0 where it is refused. A number serves look-ups better than an
+// enum, and what is refused is read again.
+fn variable_end(column: Column, row: &[u8], at: usize) -> usize
+    requires { ⌜ isVariable column ≡ true ⌝ }
+    ensures { λ r. ⌜ r ≡ endOf (variableAt column (now (row .entry)) at) ⌝ }
+{
+    let prefix = prefix_in(column, row, at);
+    let length = prefix.length;
+    if allows(column, length) {
+        let end = prefix.start + length;
+        if row.len() < end {
+            return 0;
+        }
+        return end;
+    }
+    0
+}
+
+// Past a stop of variable length with this bit, from a position with so many prefixes.
+fn pass_variable(column: Column, bit: usize, row: &[u8], at: usize, prefixes: usize) -> WalkRead
+    requires { ⌜ (isVariable column ≡ true) × (prefixes ≤ 64) ⌝ }
+    ensures answers { λ r. ⌜ toldWalk r ≡ passedVariable column bit (now (row .entry)) (place at prefixes) ⌝ }
+    ensures near { λ r. ⌜ Near (length (now (row .entry)) + at) prefixes r ⌝ }
+{
+    if is_present(column, bit, row) {
+        let end = variable_end(column, row, at);
+        if end != 0 {
+            return WalkRead::At {
+                position: end,
+                prefixes: prefixes + 1,
+            };
+        }
+        return match field_at(column, row, at) {
+            FieldRead::Refused(e) => WalkRead::Refused(e),
+            FieldRead::Found(f) => WalkRead::At {
+                position: f.end,
+                prefixes: prefixes + f.prefixes,
+            },
+        };
+    }
+    WalkRead::At {
+        position: at,
+        prefixes: prefixes,
+    }
+}
+
+// Column `i` of a plan's numbers on the way to column `k`, from a position with so many prefixes.
+fn visit(
+    plan: &[usize; 131],
     row: &[u8],
     k: usize,
     i: usize,
@@ -60,34 +165,24 @@ fn visit<'a>(
     prefixes: usize,
 ) -> WalkRead
     requires { ⌜ (k ≤ 64) × (at ≤ 4294967296) × (prefixes ≤ 64) ⌝ }
-    ensures answers { λ r. ⌜ toldWalk r ≡ visit (lent (now (codes .entry)) (now (flags .entry)) (now (maxima .entry)) (now (gaps .entry)) (now (bits .entry))) (now (row .entry)) k i (place at prefixes) ⌝ }
-    ensures near { λ r. ⌜ Near (length (now (row .entry))) at prefixes r ⌝ }
+    ensures answers { λ r. ⌜ toldWalk r ≡ visit (lent (now (plan .entry))) (now (row .entry)) k i (place at prefixes) ⌝ }
+    ensures near { λ r. ⌜ Near (length (now (row .entry)) + at + 65790) prefixes r ⌝ }
 {
-    if i >= k {
-        return WalkRead::At {
-            position: at,
-            prefixes: prefixes,
-        };
-    }
-    let column = Column {
-        code: codes[i],
-        flags: flags[i],
-        maximum: maxima[i],
-    };
-    let stop = is_stop(column);
-    if stop {
-        let behind = at + gap_size(gaps[i]);
-        if is_present(column, wide(bits[i]), row) {
-            return match field_at(column, row, behind) {
-                FieldRead::Refused(e) => WalkRead::Refused(e),
-                FieldRead::Found(f) => WalkRead::At {
-                    position: f.end,
-                    prefixes: prefixes + f.prefixes,
-                },
+    if i < k {
+        let word = plan[i];
+        let column = column_in(word);
+        if column.is_variable() {
+            return pass_variable(column, bit_in(word), row, at + gap_in(word), prefixes);
+        }
+        let stop = is_stop(column);
+        if stop {
+            return WalkRead::At {
+                position: at + gap_in(word) + width_in(word) * one(is_set(row, bit_in(word))),
+                prefixes: prefixes,
             };
         }
         return WalkRead::At {
-            position: behind,
+            position: at,
             prefixes: prefixes,
         };
     }
@@ -98,27 +193,17 @@ fn visit<'a>(
 }
 
 // From stop to stop up to column `k`, over the first `n` stops listed.
-fn follow<'a>(
-    codes: &'a [u8; 64],
-    flags: &'a [u8; 64],
-    maxima: &'a [u16; 64],
-    gaps: &'a [u16; 64],
-    bits: &'a [u8; 64],
-    stops: &'a [u8; 64],
-    n: usize,
-    row: &[u8],
-    k: usize,
-) -> WalkRead
+fn follow(plan: &[usize; 131], n: usize, row: &[u8], k: usize) -> WalkRead
     requires { ⌜ (n ≤ 64) × (k ≤ 64) × (length (now row) ≤ 16777216) ⌝ }
-    ensures answers { λ r. ⌜ toldWalk r ≡ visits (lent (now (codes .entry)) (now (flags .entry)) (now (maxima .entry)) (now (gaps .entry)) (now (bits .entry))) (now (row .entry)) k (padded n (now (stops .entry))) (place 0 0) ⌝ }
+    ensures answers { λ r. ⌜ toldWalk r ≡ visits (lent (now (plan .entry))) (now (row .entry)) k (tabled (λ j. stopIn (plannedList (lent (now (plan .entry))) j)) n 0) (place 0 0) ⌝ }
     ensures small { λ r. ⌜ Small 2147483648 r ⌝ }
 {
     let mut at = 0;
     let mut prefixes = 0;
     let mut j = 0;
     while j < n {
-        let i = wide(stops[j]);
-        match visit(codes, flags, maxima, gaps, bits, row, k, i, at, prefixes) {
+        let i = plan[64 + j] / 256 % 256;
+        match visit(plan, row, k, i, at, prefixes) {
             WalkRead::Refused(e) => {
                 return WalkRead::Refused(e);
             }
@@ -138,24 +223,20 @@ fn follow<'a>(
     }
 }
 
-// None of the first `n` bits listed is set.
-fn check_marked<'a>(marked: &'a [u8; 64], n: usize, row: &[u8]) -> Matched
-    requires { ⌜ n ≤ 64 ⌝ }
-    ensures { λ r. ⌜ toldMatch r ≡ unset (now (row .entry)) (padded n (now (marked .entry))) ⌝ }
+// The way to column `k`: from the row's start over the stops before it, then its gap.
+fn jump(plan: &[usize; 131], row: &[u8], k: usize) -> WalkRead
+    requires { ⌜ (k < 64) × (length (now row) ≤ 16777216) ⌝ }
+    ensures answers { λ r. ⌜ toldWalk r ≡ jumped (lent (now (plan .entry))) (now (row .entry)) k ⌝ }
+    ensures small { λ r. ⌜ Small 4294967296 r ⌝ }
 {
-    let mut j = 0;
-    while j < n {
-        let bit = wide(marked[j]);
-        if is_set(row, bit) {
-            return Matched::Refused(Error {
-                kind: ErrorKind::ChapterBit,
-                offset: bit / 8,
-                input: Input::Single,
-            });
-        }
-        j += 1;
+    let n = lesser(plan[64 + k] % 256, 64);
+    match follow(plan, n, row, k) {
+        WalkRead::Refused(e) => WalkRead::Refused(e),
+        WalkRead::At { position, prefixes } => WalkRead::At {
+            position: position + gap_in(plan[k]),
+            prefixes,
+        },
     }
-    Matched::Same
 }
 
 // The same error, about the row.
@@ -170,91 +251,124 @@ fn about_row(e: Error) -> LookUp
     })
 }
 
-// Opens a row by a plan's map size and marked bits. Where its data start.
-fn open_map<'a>(map: usize, chapters: usize, marked: &'a [u8; 64], row: &[u8]) -> IntRead
-    ensures { λ r. ⌜ toldInt r ≡ plannedOpen (lentMap map chapters (now (marked .entry))) (now (row .entry)) ⌝ }
+// The field of variable length whose prefix stands at `at`, after so many prefixes.
+fn find_variable(column: Column, row: &[u8], at: usize, prefixes: usize) -> LookUp
+    requires { ⌜ (isVariable column ≡ true) × (prefixes ≤ 64) ⌝ }
+    ensures { λ r. ⌜ toldLookUp r ≡ foundIn (place at prefixes) (variableAt column (now (row .entry)) at) ⌝ }
 {
-    if lacks(row.len(), 0, map) {
+    let end = variable_end(column, row, at);
+    if end != 0 {
+        return LookUp::Found(Field {
+            start: at + column.prefix_size(),
+            end,
+            prefixes: prefixes + 1,
+        });
+    }
+    match field_at(column, row, at) {
+        FieldRead::Refused(e) => about_row(e),
+        FieldRead::Found(f) => LookUp::Found(Field {
+            start: f.start,
+            end: f.end,
+            prefixes: prefixes + f.prefixes,
+        }),
+    }
+}
+
+// The field at `at` of a column that a plan holds as this number, after so many prefixes.
+fn find_at(word: usize, row: &[u8], at: usize, prefixes: usize) -> LookUp
+    requires { ⌜ (at ≤ 4294967296) × (prefixes ≤ 64) ⌝ }
+    ensures { λ r. ⌜ toldLookUp r ≡ foundIn (place at prefixes) (fieldIn word (now (row .entry)) at) ⌝ }
+{
+    let column = column_in(word);
+    if column.is_variable() {
+        return find_variable(column, row, at, prefixes);
+    }
+    let end = at + width_in(word);
+    if row.len() < end {
+        return LookUp::Refused(Error {
+            kind: ErrorKind::Short,
+            offset: row.len(),
+            input: Input::Row,
+        });
+    }
+    LookUp::Found(Field {
+        start: at,
+        end,
+        prefixes,
+    })
+}
+
+// Column `k` of a row that opens: a chapter, null, or its field by the way to it.
+fn look_at(plan: &[usize; 131], row: &[u8], k: usize) -> LookUp
+    requires { ⌜ (k < 64) × (length (now row) ≤ 16777216) ⌝ }
+    ensures { λ r. ⌜ toldLookUp r ≡ about input.Row (plannedAnswer (lent (now (plan .entry))) (now (row .entry)) k) ⌝ }
+{
+    let word = plan[k];
+    let column = column_in(word);
+    if column.is_chapter() {
+        return LookUp::Chapter;
+    }
+    if is_present(column, bit_in(word), row) {
+        return match jump(plan, row, k) {
+            WalkRead::Refused(e) => about_row(e),
+            WalkRead::At { position, prefixes } => find_at(word, row, position, prefixes),
+        };
+    }
+    LookUp::Null
+}
+
+// None of the first `n` bits listed is set.
+fn check_marked(plan: &[usize; 131], n: usize, row: &[u8]) -> Matched
+    requires { ⌜ n ≤ 64 ⌝ }
+    ensures { λ r. ⌜ toldMatch r ≡ unset (now (row .entry)) (tabled (λ j. markedIn (plannedList (lent (now (plan .entry))) j)) n 0) ⌝ }
+{
+    let mut j = 0;
+    while j < n {
+        let bit = plan[64 + j] / 65536;
+        if is_set(row, bit) {
+            return Matched::Refused(Error {
+                kind: ErrorKind::ChapterBit,
+                offset: bit / 8,
+                input: Input::Single,
+            });
+        }
+        j += 1;
+    }
+    Matched::Same
+}
+
+// Opens a row by a plan's map size and marked bits. Where its data start.
+fn open_map(plan: &[usize; 131], row: &[u8]) -> IntRead
+    ensures { λ r. ⌜ toldInt r ≡ plannedOpen (lent (now (plan .entry))) (now (row .entry)) ⌝ }
+{
+    if row.len() < plan[129] {
         return IntRead::Refused(Error {
             kind: ErrorKind::Short,
             offset: row.len(),
             input: Input::Single,
         });
     }
-    match check_marked(marked, lesser(chapters, 64), row) {
+    match check_marked(plan, lesser(plan[130], 64), row) {
         Matched::Refused(e) => IntRead::Refused(e),
-        Matched::Same => IntRead::Int(map),
+        Matched::Same => IntRead::Int(plan[129]),
     }
 }
 
-// The way to column `k`: from the row's start over the stops before it, then its gap.
-fn jump<'a>(
-    codes: &'a [u8; 64],
-    flags: &'a [u8; 64],
-    maxima: &'a [u16; 64],
-    gaps: &'a [u16; 64],
-    bits: &'a [u8; 64],
-    before: &'a [u8; 64],
-    stops: &'a [u8; 64],
-    row: &[u8],
-    k: usize,
-) -> WalkRead
-    requires { ⌜ (k < 64) × (length (now row) ≤ 16777216) ⌝ }
-    ensures answers { λ r. ⌜ toldWalk r ≡ jumped (lentWay (now (codes .entry)) (now (flags .entry)) (now (maxima .entry)) (now (gaps .entry)) (now (bits .entry)) (now (before .entry)) (now (stops .entry))) (now (row .entry)) k ⌝ }
-    ensures small { λ r. ⌜ Small 4294967296 r ⌝ }
+// The same error, about the row, of a row that does not open.
+fn not_open(e: Error) -> IntRead
+    ensures { λ r. ⌜ r ≡ int.Refused (record { kind = e .kind; offset = e .offset; input = input.Row }) ⌝ }
 {
-    let n = lesser(wide(before[k]), 64);
-    match follow(codes, flags, maxima, gaps, bits, stops, n, row, k) {
-        WalkRead::Refused(e) => WalkRead::Refused(e),
-        WalkRead::At { position, prefixes } => WalkRead::At {
-            position: position + gap_size(gaps[k]),
-            prefixes,
-        },
-    }
+    let kind = e.kind;
+    IntRead::Refused(Error {
+        kind,
+        offset: e.offset,
+        input: Input::Row,
+    })
 }
 
-// Column `k` of a row that opens: a chapter, null, or its field by the way to it.
-fn look_at<'a>(
-    codes: &'a [u8; 64],
-    flags: &'a [u8; 64],
-    maxima: &'a [u16; 64],
-    gaps: &'a [u16; 64],
-    bits: &'a [u8; 64],
-    before: &'a [u8; 64],
-    stops: &'a [u8; 64],
-    row: &[u8],
-    k: usize,
-) -> LookUp
-    requires { ⌜ (k < 64) × (length (now row) ≤ 16777216) ⌝ }
-    ensures { λ r. ⌜ toldLookUp r ≡ about input.Row (plannedAnswer (lentWay (now (codes .entry)) (now (flags .entry)) (now (maxima .entry)) (now (gaps .entry)) (now (bits .entry)) (now (before .entry)) (now (stops .entry))) (now (row .entry)) k) ⌝ }
-{
-    let column = Column {
-        code: codes[k],
-        flags: flags[k],
-        maximum: maxima[k],
-    };
-    if column.is_chapter() {
-        return LookUp::Chapter;
-    }
-    if is_present(column, wide(bits[k]), row) {
-        return match jump(codes, flags, maxima, gaps, bits, before, stops, row, k) {
-            WalkRead::Refused(e) => about_row(e),
-            WalkRead::At { position, prefixes } => match field_at(column, row, position) {
-                FieldRead::Refused(e) => about_row(e),
-                FieldRead::Found(f) => LookUp::Found(Field {
-                    start: f.start,
-                    end: f.end,
-                    prefixes: prefixes + f.prefixes,
-                }),
-            },
-        };
-    }
-    LookUp::Null
-}
-
-// The row's size, then the column number, of `count` columns.
-fn check_asked(count: usize, row: &[u8], k: usize) -> Matched
-    ensures { λ r. ⌜ toldMatch r ≡ asked count (now (row .entry)) k ⌝ }
+// The row's size, then the column number.
+fn check_asked(plan: &[usize; 131], row: &[u8], k: usize) -> Matched
+    ensures { λ r. ⌜ toldMatch r ≡ asked (lent (now (plan .entry))) (now (row .entry)) k ⌝ }
 {
     if row.len() > LIMIT {
         return Matched::Refused(Error {
@@ -263,7 +377,7 @@ fn check_asked(count: usize, row: &[u8], k: usize) -> Matched
             input: Input::Row,
         });
     }
-    if k >= lesser(count, 64) {
+    if k >= lesser(plan[128], 64) {
         return Matched::Refused(Error {
             kind: ErrorKind::Missing,
             offset: 0,
@@ -273,29 +387,39 @@ fn check_asked(count: usize, row: &[u8], k: usize) -> Matched
     Matched::Same
 }
 
-// What a row has at column `k`, by a plan whose parts are lent, so that none of it is copied.
-pub fn look_lent<'a>(
-    count: usize,
-    map: usize,
-    chapters: usize,
-    codes: &'a [u8; 64],
-    flags: &'a [u8; 64],
-    maxima: &'a [u16; 64],
-    gaps: &'a [u16; 64],
-    bits: &'a [u8; 64],
-    before: &'a [u8; 64],
-    stops: &'a [u8; 64],
-    marked: &'a [u8; 64],
-    row: &[u8],
-    k: usize,
-) -> LookUp
-    ensures { λ r. ⌜ toldLookUp r ≡ plannedRow (parts count map chapters (now (codes .entry)) (now (flags .entry)) (now (maxima .entry)) (now (gaps .entry)) (now (bits .entry)) (now (before .entry)) (now (stops .entry)) (now (marked .entry))) (now (row .entry)) k ⌝ }
+// Whether a row counts as opened at `start`: it is the plan's start, and in the row.
+fn counts_opened(plan: &[usize; 131], start: usize, row: &[u8]) -> bool
+    ensures { λ r. ⌜ r ≡ countsOpened (lent (now (plan .entry))) start (now (row .entry)) ⌝ }
 {
-    match check_asked(count, row, k) {
+    if row.len() < start {
+        return false;
+    }
+    start == plan[129]
+}
+
+// A row counts as opened, or is opened now.
+fn check_start(plan: &[usize; 131], start: usize, row: &[u8]) -> Matched
+    ensures { λ r. ⌜ toldMatch r ≡ startChecked (lent (now (plan .entry))) start (now (row .entry)) ⌝ }
+{
+    if counts_opened(plan, start, row) {
+        return Matched::Same;
+    }
+    match open_map(plan, row) {
+        IntRead::Refused(e) => Matched::Refused(e),
+        IntRead::Int(_) => Matched::Same,
+    }
+}
+
+// Column `k` of a row that was opened at `start`, by a plan whose numbers are lent. A row that does not count as opened there is opened
+// first.
+pub fn from_lent(plan: &[usize; 131], start: usize, row: &[u8], k: usize) -> LookUp
+    ensures { λ r. ⌜ toldLookUp r ≡ handled (lent (now (plan .entry))) start (now (row .entry)) k ⌝ }
+{
+    match check_asked(plan, row, k) {
         Matched::Refused(e) => LookUp::Refused(e),
-        Matched::Same => match open_map(map, chapters, marked, row) {
-            IntRead::Refused(e) => about_row(e),
-            IntRead::Int(_) => look_at(codes, flags, maxima, gaps, bits, before, stops, row, k),
+        Matched::Same => match check_start(plan, start, row) {
+            Matched::Refused(e) => about_row(e),
+            Matched::Same => look_at(plan, row, k),
         },
     }
 }
@@ -304,21 +428,7 @@ pub fn look_lent<'a>(
 pub fn look_up(plan: Plan, row: &[u8], k: usize) -> LookUp
     ensures { λ r. ⌜ toldLookUp r ≡ plannedRow plan (now (row .entry)) k ⌝ }
 {
-    look_lent(
-        plan.count,
-        plan.map,
-        plan.chapters,
-        &plan.codes,
-        &plan.flags,
-        &plan.maxima,
-        &plan.gaps,
-        &plan.bits,
-        &plan.before,
-        &plan.stops,
-        &plan.marked,
-        row,
-        k,
-    )
+    from_lent(&plan.numbers, NOT_OPENED, row, k)
 }
 
 // The bytes of a field that was found, as a part of the row; empty where none was.
@@ -356,59 +466,9 @@ pub fn open_row(plan: Plan, row: &[u8]) -> IntRead
             input: Input::Row,
         });
     }
-    match open_map(plan.map, plan.chapters, &plan.marked, row) {
-        IntRead::Refused(e) => {
-            let kind = e.kind;
-            IntRead::Refused(Error {
-                kind,
-                offset: e.offset,
-                input: Input::Row,
-            })
-        }
+    match open_map(&plan.numbers, row) {
+        IntRead::Refused(e) => not_open(e),
         IntRead::Int(start) => IntRead::Int(start),
-    }
-}
-
-// Column `k` of a row that was opened at `start`, by a plan whose parts are lent. The map is checked again only where the plan has
-// another start.
-pub fn from_lent<'a>(
-    count: usize,
-    map: usize,
-    chapters: usize,
-    codes: &'a [u8; 64],
-    flags: &'a [u8; 64],
-    maxima: &'a [u16; 64],
-    gaps: &'a [u16; 64],
-    bits: &'a [u8; 64],
-    before: &'a [u8; 64],
-    stops: &'a [u8; 64],
-    marked: &'a [u8; 64],
-    start: usize,
-    row: &[u8],
-    k: usize,
-) -> LookUp
-    ensures { λ r. ⌜ toldLookUp r ≡ handled (parts count map chapters (now (codes .entry)) (now (flags .entry)) (now (maxima .entry)) (now (gaps .entry)) (now (bits .entry)) (now (before .entry)) (now (stops .entry)) (now (marked .entry))) start (now (row .entry)) k ⌝ }
-{
-    if start != map {
-        return look_lent(
-            count,
-            map,
-            chapters,
-            codes,
-            flags,
-            maxima,
-            gaps,
-            bits,
-            before,
-            stops,
-            marked,
-            row,
-            k,
-        );
-    }
-    match check_asked(count, row, k) {
-        Matched::Refused(e) => LookUp::Refused(e),
-        Matched::Same => look_at(codes, flags, maxima, gaps, bits, before, stops, row, k),
     }
 }
 
@@ -416,22 +476,7 @@ pub fn from_lent<'a>(
 pub fn look_from(row: &[u8], start: usize, plan: Plan, k: usize) -> LookUp
     ensures { λ r. ⌜ toldLookUp r ≡ handled plan start (now (row .entry)) k ⌝ }
 {
-    from_lent(
-        plan.count,
-        plan.map,
-        plan.chapters,
-        &plan.codes,
-        &plan.flags,
-        &plan.maxima,
-        &plan.gaps,
-        &plan.bits,
-        &plan.before,
-        &plan.stops,
-        &plan.marked,
-        start,
-        row,
-        k,
-    )
+    from_lent(&plan.numbers, start, row, k)
 }
 
 // The bytes of its field, as a part of the row; empty where no field is found.

@@ -6,25 +6,18 @@ ghost use mathlib.Core.Bool.{false};
 ghost use Rattle.wire.specs.Read.{pick};
 ghost use Rattle.column.specs.Columns.{isChapter, isNullable};
 ghost use Rattle.column.specs.Layout.{padded, columnsFrom, columnsIn};
-ghost use Rattle.row.specs.Presence.{one, nullables, marks};
+ghost use Rattle.row.specs.Presence.{nullables, marks};
+ghost use Rattle.plan.specs.Packed.{packed, listed, columnNumbers, listNumbers, laid};
 ghost use Rattle.plan.specs.Plans.{gapPast, gapsFrom, stopsFrom, stopsBefore, bitsOf, chapterBits, planOf};
 use crate::column_of;
 use crate::look::is_stop;
+use crate::one;
 use crate::plan::Plan;
 use column::column::Column;
 use column::columns::Columns;
 use wire::bits::map_bytes;
+use wire::integer::wide;
 use wire::lesser;
-
-// 1 where so, else 0.
-fn one(so: bool) -> usize
-    ensures { λ r. ⌜ (r ≡ one so) × (r ≤ 1) ⌝ }
-{
-    if so {
-        return 1;
-    }
-    0
-}
 
 // The first `n` of 64 bytes, with zeros behind them.
 fn first_bytes(bytes: &[u8; 64], n: usize) -> [u8; 64]
@@ -206,6 +199,64 @@ fn marked_of<'a>(codes: &'a [u8; 64], flags: &'a [u8; 64], maxima: &'a [u16; 64]
     Bits { count, bits }
 }
 
+// A number of two bytes as one of eight.
+fn short(n: u16) -> usize
+    ensures { λ r. ⌜ (r ≡ n) × (r < 65536) ⌝ }
+{
+    n as usize
+}
+
+// A column with its gap and its bit in one number.
+fn pack(column: Column, gap: u16, bit: u8) -> usize
+    ensures { λ r. ⌜ r ≡ packed column gap bit ⌝ }
+{
+    let code = column.code;
+    let flags = column.flags;
+    let maximum = column.maximum;
+    wide(code)
+        + 256 * wide(flags)
+        + 65536 * short(maximum)
+        + 4294967296 * short(gap)
+        + 281474976710656 * wide(bit)
+        + 72057594037927936 * column.width()
+}
+
+// The same number of three lists in one.
+fn list(before: u8, stop: u8, marked: u8) -> usize
+    ensures { λ r. ⌜ r ≡ listed before stop marked ⌝ }
+{
+    wide(before) + 256 * wide(stop) + 65536 * wide(marked)
+}
+
+// All numbers of a plan, from the arrays of its parts.
+fn lay<'a>(
+    codes: &'a [u8; 64],
+    flags: &'a [u8; 64],
+    maxima: &'a [u16; 64],
+    gaps: &'a [u16; 64],
+    bits: &'a [u8; 64],
+    before: &'a [u8; 64],
+    stops: &'a [u8; 64],
+    marked: &'a [u8; 64],
+    count: usize,
+    map: usize,
+    chapters: usize,
+) -> [usize; 131]
+    ensures { λ r. ⌜ r ≡ laid (columnNumbers (now (codes .entry)) (now (flags .entry)) (now (maxima .entry)) (now (gaps .entry)) (now (bits .entry))) (listNumbers (now (before .entry)) (now (stops .entry)) (now (marked .entry))) count map chapters ⌝ }
+{
+    let mut numbers = [0usize; 131];
+    let mut i = 0;
+    while i < 64 {
+        numbers[i] = pack(column_of(codes, flags, maxima, i), gaps[i], bits[i]);
+        numbers[64 + i] = list(before[i], stops[i], marked[i]);
+        i += 1;
+    }
+    numbers[128] = count;
+    numbers[129] = map;
+    numbers[130] = chapters;
+    numbers
+}
+
 // The plan of the first `n` columns of three arrays.
 fn plan_of<'a>(codes: &'a [u8; 64], flags: &'a [u8; 64], maxima: &'a [u16; 64], n: usize) -> Plan
     requires { ⌜ n ≤ 64 ⌝ }
@@ -219,18 +270,23 @@ fn plan_of<'a>(codes: &'a [u8; 64], flags: &'a [u8; 64], maxima: &'a [u16; 64], 
     let gaps = gaps_of(codes, flags, maxima, n, map);
     let before = before_of(codes, flags, maxima, n);
     let stops = stops_of(codes, flags, maxima, n);
+    let first_codes = first_bytes(codes, n);
+    let first_flags = first_bytes(flags, n);
+    let first_numbers = first_maxima(maxima, n);
     Plan {
-        count: n,
-        map,
-        chapters: chapter_bits.count,
-        codes: first_bytes(codes, n),
-        flags: first_bytes(flags, n),
-        maxima: first_maxima(maxima, n),
-        gaps,
-        bits,
-        before,
-        stops,
-        marked,
+        numbers: lay(
+            &first_codes,
+            &first_flags,
+            &first_numbers,
+            &gaps,
+            &bits,
+            &before,
+            &stops,
+            &marked,
+            n,
+            map,
+            chapter_bits.count,
+        ),
     }
 }
 

@@ -1,6 +1,5 @@
 -- Each array by its function.
 -- Assumes nothing.
-use mathlib.Core.Path.{refl}
 use Rattle.plan.proofs.Made.{map-made, map-small, plan-made}
 use borrow.Author.Needs.{needs}
 use Rattle.plan.proofs.make.plan_of.Statement.{statement}
@@ -15,16 +14,18 @@ gaps-of-requires c κs =
 
 returns : tie.Need-returns
 returns c =
-    let args = c .before .before .before .before .before .before .before .before .before .before .before .args in
-    let bits-of = c .before .before .before .before .before .before .before .before .before .before .bits-of in
-    let map-bytes = c .before .before .before .before .before .before .before .before .before .map-bytes in
-    let marked-of = c .before .before .before .before .before .before .before .marked-of in
-    let gaps-of = c .before .before .before .before .before .gaps-of in
-    let before-of = c .before .before .before .before .before-of in
-    let stops-of = c .before .before .before .stops-of in
-    let first-bytes = c .before .before .first-bytes in
-    plan-made (args .codes .now) (args .flags .now) (args .maxima .now) (args .n) _ refl (map-made (args .codes .now) (args .flags .now) (args .maxima .now) (args .n) (bits-of .ensures .1 .0) (map-bytes .ensures)) (marked-of .ensures .1)
-    (first-bytes .ensures) (c .before .first-bytes2 .ensures) (c .first-maxima .ensures) (gaps-of .ensures) (bits-of .ensures .0) (before-of .ensures) (stops-of .ensures) (marked-of .ensures .0)
+    let args = c .before .before .before .before .before .before .before .before .before .before .before .before .before .before .before .before .before .before .before .before .args in
+    let bits-of = c .before .before .before .before .before .before .before .before .before .before .before .before .before .before .before .before .before .before .before .bits-of in
+    let map-bytes = c .before .before .before .before .before .before .before .before .before .before .before .before .before .before .before .before .before .before .map-bytes in
+    let marked-of = c .before .before .before .before .before .before .before .before .before .before .before .before .before .before .before .before .marked-of in
+    let gaps-of = c .before .before .before .before .before .before .before .before .before .before .before .before .before .before .gaps-of in
+    let before-of = c .before .before .before .before .before .before .before .before .before .before .before .before .before .before-of in
+    let stops-of = c .before .before .before .before .before .before .before .before .before .before .before .before .stops-of in
+    let first-bytes = c .before .before .before .before .before .before .before .before .before .before .before .first-bytes in
+    let first-bytes2 = c .before .before .before .before .before .before .before .before .before .before .first-bytes2 in
+    let first-maxima = c .before .before .before .before .before .before .before .before .before .first-maxima in
+    plan-made (args .codes .now) (args .flags .now) (args .maxima .now) (args .n) (c .lay .ensures) (map-made (args .codes .now) (args .flags .now) (args .maxima .now) (args .n) (bits-of .ensures .1 .0) (map-bytes .ensures)) (marked-of .ensures .1)
+    (first-bytes .ensures) (first-bytes2 .ensures) (first-maxima .ensures) (gaps-of .ensures) (bits-of .ensures .0) (before-of .ensures) (stops-of .ensures) (marked-of .ensures .0)
 
 pub plan-of-spec : {M : Type 1} → statement M
 plan-of-spec =
@@ -34,6 +35,7 @@ plan-of-spec =
     (λ c κs. search needs)
     (λ c κs. search needs)
     gaps-of-requires
+    (λ c κs. search needs)
     (λ c κs. search needs)
     (λ c κs. search needs)
     (λ c κs. search needs)
