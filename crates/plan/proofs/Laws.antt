@@ -96,15 +96,15 @@ module _ (c : Column) (v : isVariable c ≡ true) where
 
   module _ (n : ℕ) where
     pub allowed-over : c .code ≡ 0x82 → 2 * c .maximum < n → false ≡ eqb (lengthError c n) 0
-    allowed-over e h = ap (λ (k : ℕ). eqb k 0) (wide-over c n (kind-wide e) refl h)
+    allowed-over e h = ap (λ (k : ℕ). eqb k 0) (wide-over c n e h)
 
     pub allowed-even : c .code ≡ 0x82 → n ≤ 2 * c .maximum → eqb (n % 2) 0 ≡ eqb (lengthError c n) 0
     allowed-even e h =
         small (eqb (n % 2) 0)
-        ∙ ap (λ (k : ℕ). eqb k 0) (length-told c n (kind-wide e) refl (ap (λ (t : Bool). pick t (pick (eqb (n % 2) 0) 0 14) 14) (le-leb _ _ h)))
+        ∙ ap (λ (k : ℕ). eqb k 0) (length-told c n (sym (kind-wide e)) (ap (λ (t : Bool). pick t (pick (eqb (n % 2) 0) 0 14) 14) (le-leb _ _ h)))
 
     pub allowed-plain : (c .code ≡ 0x82 → ⊥) → leb n (c .maximum) ≡ eqb (lengthError c n) 0
-    allowed-plain e = small (leb n (c .maximum)) ∙ ap (λ (k : ℕ). eqb k 0) (length-told c n (kind-plain e) refl refl)
+    allowed-plain e = small (leb n (c .maximum)) ∙ ap (λ (k : ℕ). eqb k 0) (length-told c n (sym (kind-plain e)) refl)
 
 module _ (c : Column) (row : Bytes) (at : ℕ) where
   -- what was read as its length
