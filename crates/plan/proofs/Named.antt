@@ -2,19 +2,14 @@
 -- Assumes nothing.
 use Prim.Native.Nat.{ℕ, zero, suc, _+_, _-_, _≤_, _<_}
 use mathlib.Core.Bool.{Bool, true, false}
-use mathlib.Core.Path.{_≡_, refl, sym, ap, _∙_}
+use mathlib.Core.Path.{_≡_, refl, ap, _∙_}
 use native.Mathlib.Omega.{arith}
 use borrow.Author.Tests.{lt-ltb, le-ltb}
 use Rattle.wire.specs.declared.error.Input.the-variants as input
 use Rattle.wire.specs.Read.{ok, bad, pick, check, about}
-use Rattle.column.specs.declared.column.Column.{Column}
 use Rattle.column.specs.Columns.{isChapter, prefixBytes}
 use Rattle.plan.specs.declared.plan.Plan.{Plan}
 use Rattle.plan.specs.Plans.{isStop, plannedColumn, plannedGap, plannedCount, plannedKnown, fixed, moving, noStops, fixedPlace}
-
--- what was asked of a plan's column
-pub column-asked : {A : Type 0} (g : Column → A) (p : Plan) (k : ℕ) (c : Column) (r : A) → c ≡ plannedColumn p k → r ≡ g c → g (plannedColumn p k) ≡ r
-column-asked g p k c r e f = ap g (sym e) ∙ sym f
 
 -- Stops before a column, counted down.
 
