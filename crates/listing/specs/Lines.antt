@@ -1,15 +1,16 @@
 -- The lines that the program prints (document 01, "Examples").
 -- Assumes nothing.
-use Prim.Native.Nat.{ℕ, _+_, _≤_}
+use Prim.Native.Nat.{ℕ, zero, suc, _+_, _≤_}
 use mathlib.Core.Path.{_≡_}
 use mathlib.Core.List.{List, [], _∷_, _++_}
-use lib.ListN.{length}
+use lib.ListN.{length, getD, drop}
 use lib.Dec.{eqb}
 use Rattle.wire.specs.declared.error.Input.{Input}
 use Rattle.wire.specs.declared.error.Input.the-variants as input
 use Rattle.wire.specs.Errors.{inputNumber}
-use Rattle.wire.specs.Read.{Bytes, pick}
+use Rattle.wire.specs.Read.{Bytes, Read, ok, bad, pick}
 use Rattle.wire.specs.Output.{put}
+use Rattle.grammar.specs.Grammar.{Row, entry}
 use Rattle.io.specs.Digits.{digits, Fewest}
 
 -- A number in decimal, with no zero in front.
@@ -55,7 +56,23 @@ refusalWords name = pick (eqb (inputNumber name) (inputNumber input.Schema)) she
 pub data RefusalLine (words : Bytes) (code place : ℕ) : Bytes → Type 0 where
   refusal-line : {a b : Bytes} → Decimal code a → Decimal place b → RefusalLine words code place (((words ++ (a ++ space)) ++ atWord) ++ (b ++ newline))
 
--- A line that has `at` bytes is given a piece more; then it has `end`.
+-- The lines of rows, one after the other.
+pub data RowLines : List Row → Bytes → Type 0 where
+  no-lines : RowLines [] []
+  one-more : {rs : List Row} {r : Row} {lines line : Bytes} → RowLines rs lines → RowLine (r .kind) (r .id) (r .original) (r .update) line →
+      RowLines (rs ++ (r ∷ [])) (lines ++ line)
+
+-- The text of a listing: how many rows and a line for each, or a refusal alone.
+pub data Text : Read (List Row) → Bytes → Type 0 where
+  rows-text : {rs : List Row} {first lines : Bytes} → CountLine (length rs) first → RowLines rs lines → Text (ok rs) (first ++ lines)
+  refusal-text : {code place : ℕ} {name : Input} {line : Bytes} → RefusalLine (refusalWords name) code place line → Text (bad code place name) line
+
+-- the first n rows of a table
+unfoldable pub rowsOf : ℕ → List ℕ → List Row
+rowsOf zero table = []
+rowsOf (suc n) table = entry (getD table 0 0) (getD table 1 0) (getD table 2 0) (getD table 3 0) ∷ rowsOf n (drop 4 table)
+
+-- A text that has `at` bytes is given a piece more; then it has `end`.
 pub record Adds (entry exit : Bytes) (at : ℕ) (piece : Bytes) (end : ℕ) : Type 0 where
   pub holds : exit ≡ put entry at piece
   pub ends : end ≡ at + length piece
@@ -66,3 +83,10 @@ pub record AddsNumber (entry exit : Bytes) (at n byte end : ℕ) : Type 0 where
   pub decimal : Decimal n text
   pub few : length text ≤ 20
   pub adds : Adds entry exit at (text ++ (byte ∷ [])) end
+
+-- The piece is what it is said to be, and not longer than so many bytes.
+pub record AddsThe (Is : Bytes → Type 0) (most : ℕ) (entry exit : Bytes) (at end : ℕ) : Type 0 where
+  pub piece : Bytes
+  pub is : Is piece
+  pub adds : Adds entry exit at piece end
+  pub few : end ≤ at + most

@@ -1,26 +1,21 @@
 // The listing: the rows of a section under a schema file, or why one of the two is refused.
-ghost use Prim.Native.Nat.{_*_, _≤_};
-ghost use lib.ListN.{length};
+ghost use Prim.Native.Nat.{_+_, _*_, _≤_};
+ghost use lib.ListN.{length, take};
 ghost use Rattle.section.specs.Table.{Listed};
+ghost use Rattle.io.specs.Counts.{Counts};
+ghost use Rattle.listing.specs.Lines.{Text};
 ghost use Rattle.listing.specs.Listing.{listing};
-use crate::lines::LINE;
-use crate::lines::count_line;
-use crate::lines::error_line;
-use crate::lines::row_line;
+use crate::lines::add_count;
+use crate::lines::add_error;
+use crate::lines::add_rows;
 use section::read::RowsRead;
 use section::read::read_section;
 use wire::error::Error;
 use wire::error::ErrorKind;
 use wire::error::Input;
 
-// Standard output.
-const OUT: i32 = 1;
-
 // The most bytes that a file may have.
 pub const FILE_LIMIT: usize = 16_384;
-
-// The numbers of a table for 1,024 rows.
-const TABLE: usize = 4_096;
 
 // Reads the rows of a section under a schema file into a table, where both are small enough.
 fn list_rows(sheet: &[u8], rows: &[u8], table: &mut [u32]) -> RowsRead
@@ -43,47 +38,16 @@ fn list_rows(sheet: &[u8], rows: &[u8], table: &mut [u32]) -> RowsRead
     read_section(sheet, rows, table)
 }
 
-// Why the listing is refused.
-fn print_error(e: Error) {
-    let mut line = [0u8; LINE];
-    let size = error_line(e, &mut line);
-    io::write_all(OUT, &line[..size]);
-}
-
-// The number of rows.
-fn print_count(n: usize) {
-    let mut line = [0u8; LINE];
-    let size = count_line(n, &mut line);
-    io::write_all(OUT, &line[..size]);
-}
-
-// One row.
-fn print_row(kind: u32, id: u32, original: u32, update: u32) {
-    let mut line = [0u8; LINE];
-    let size = row_line(kind, id, original, update, &mut line);
-    io::write_all(OUT, &line[..size]);
-}
-
-// The first `n` rows of a table.
-fn print_rows(table: &[u32], n: usize)
-    requires { ⌜ 4 * n ≤ length (now table) ⌝ }
+// The text of a listing. How many bytes it has.
+pub fn list_text(sheet: &[u8], rows: &[u8], table: &mut [u32], text: &mut [u8]) -> usize
+    requires { ⌜ 84 + 21 * length (now table) ≤ length (now text) ⌝ }
+    ensures { λ r. ⌜ Counts r (now (text .exit)) × Text (listing (now (sheet .entry)) (now (rows .entry)) (length (now (table .entry)))) (take r (now (text .exit))) ⌝ }
 {
-    let mut i = 0;
-    while i < n {
-        let at = 4 * i;
-        print_row(table[at], table[at + 1], table[at + 2], table[at + 3]);
-        i += 1;
-    }
-}
-
-// Prints the listing of a section under a schema file.
-pub fn print_listing(sheet: &[u8], rows: &[u8]) {
-    let mut table = [0u32; TABLE];
-    match list_rows(sheet, rows, &mut table) {
-        RowsRead::Refused(e) => print_error(e),
+    match list_rows(sheet, rows, table) {
+        RowsRead::Refused(e) => add_error(text, e),
         RowsRead::Rows(n) => {
-            print_count(n);
-            print_rows(&table, n);
+            let at = add_count(text, n);
+            add_rows(text, at, table, n)
         }
     }
 }

@@ -2,8 +2,8 @@
 -- Assumes nothing.
 use borrow.Author.Needs.{needs}
 use Rattle.listing.proofs.Laws.{refusal-made}
-use Rattle.listing.proofs.lines.refusal_line.Statement.{statement}
-use Rattle.listing.proofs.lines.refusal_line.Tie as tie
+use Rattle.listing.proofs.lines.add_refusal.Statement.{statement}
+use Rattle.listing.proofs.lines.add_refusal.Tie as tie
 
 returns : tie.Need-returns
 returns c =
@@ -15,8 +15,8 @@ returns c =
     (c .before .before .before .before .before .before .add-words2 .ensures)
     (c .before .before .add-number2 .ensures)
 
-pub refusal-line-spec : {M : Type 1} → statement M
-refusal-line-spec =
+pub add-refusal-spec : {M : Type 1} → statement M
+add-refusal-spec =
     tie.close
     (tie.spec
     (λ c κs. search needs)

@@ -2,8 +2,8 @@
 -- Assumes nothing.
 use borrow.Author.Needs.{needs}
 use Rattle.listing.proofs.Laws.{row-made}
-use Rattle.listing.proofs.lines.row_line.Statement.{statement}
-use Rattle.listing.proofs.lines.row_line.Tie as tie
+use Rattle.listing.proofs.lines.add_row.Statement.{statement}
+use Rattle.listing.proofs.lines.add_row.Tie as tie
 
 returns : tie.Need-returns
 returns c =
@@ -14,8 +14,8 @@ returns c =
     (c .before .before .before .before .before .before .add-number3 .ensures)
     (c .before .before .add-number4 .ensures)
 
-pub row-line-spec : {M : Type 1} → statement M
-row-line-spec =
+pub add-row-spec : {M : Type 1} → statement M
+add-row-spec =
     tie.close
     (tie.spec
     (λ c κs. search needs)
