@@ -34,7 +34,7 @@ fn add_number(text: &mut [u8], at: usize, n: usize, byte: u8) -> usize
 }
 
 // The first line: how many rows follow.
-pub fn add_count(text: &mut [u8], n: usize) -> usize
+pub(crate) fn add_count(text: &mut [u8], n: usize) -> usize
     requires { ⌜ 84 ≤ length (now text) ⌝ }
     ensures { λ r. ⌜ AddsThe (CountLine n) 84 (now (text .entry)) (now (text .exit)) 0 r ⌝ }
 {
@@ -54,7 +54,7 @@ fn add_row(text: &mut [u8], at: usize, kind: u32, id: u32, original: u32, update
 }
 
 // Adds the lines of the first `n` rows of a table.
-pub fn add_rows(text: &mut [u8], at: usize, table: &[u32], n: usize) -> usize
+pub(crate) fn add_rows(text: &mut [u8], at: usize, table: &[u32], n: usize) -> usize
     requires { ⌜ (at + 84 * n ≤ length (now text)) × (4 * n ≤ length (now table)) ⌝ }
     ensures { λ r. ⌜ AddsThe (RowLines (rowsOf n (now (table .entry)))) (84 * n) (now (text .entry)) (now (text .exit)) at r ⌝ }
 {
@@ -87,7 +87,7 @@ fn add_refusal(text: &mut [u8], words: &[u8], code: usize, place: usize) -> usiz
 }
 
 // The one line of an error: of the sheet where it is about the schema file, else of the rows.
-pub fn add_error(text: &mut [u8], e: Error) -> usize
+pub(crate) fn add_error(text: &mut [u8], e: Error) -> usize
     requires { ⌜ 84 ≤ length (now text) ⌝ }
     ensures { λ r. ⌜ AddsThe (RefusalLine (refusalWords (e .input)) (codeOf (e .kind)) (e .offset)) 84 (now (text .entry)) (now (text .exit)) 0 r ⌝ }
 {

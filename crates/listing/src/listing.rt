@@ -39,7 +39,7 @@ fn list_rows(sheet: &[u8], rows: &[u8], table: &mut [u32]) -> RowsRead
 }
 
 // The text of a listing. How many bytes it has.
-pub fn list_text(sheet: &[u8], rows: &[u8], table: &mut [u32], text: &mut [u8]) -> usize
+pub(crate) fn list_text(sheet: &[u8], rows: &[u8], table: &mut [u32], text: &mut [u8]) -> usize
     requires { ⌜ 84 + 21 * length (now table) ≤ length (now text) ⌝ }
     ensures { λ r. ⌜ Counts r (now (text .exit)) × Text (listing (now (sheet .entry)) (now (rows .entry)) (length (now (table .entry)))) (take r (now (text .exit))) ⌝ }
 {

@@ -8,14 +8,14 @@ ghost use Rattle.section.specs.Shapes.{Sound};
 use wire::integer::wide;
 
 // The child id in the slot of a schema.
-pub fn id_in(slot: u64) -> usize
+pub(crate) fn id_in(slot: u64) -> usize
     ensures { λ r. ⌜ r ≡ idIn slot ⌝ }
 {
     (slot / 4_294_967_296) as usize
 }
 
 // A guess for each last byte of a child id: the number of a schema with such an id, or 0.
-pub fn guesses(slots: &[u64; 512], schemas: usize) -> [u8; 256]
+pub(crate) fn guesses(slots: &[u64; 512], schemas: usize) -> [u8; 256]
     requires { ⌜ schemas ≤ 256 ⌝ }
 {
     let mut numbers = [0u8; 256];
@@ -29,7 +29,7 @@ pub fn guesses(slots: &[u64; 512], schemas: usize) -> [u8; 256]
 }
 
 // The number of the schema with a child id; 0 where there is none. The guess is looked at first.
-pub fn find_child<'a>(
+pub(crate) fn find_child<'a>(
     slots: &'a [u64; 512],
     numbers: &'a [u8; 256],
     schemas: usize,

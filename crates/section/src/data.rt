@@ -29,7 +29,7 @@ use wire::error::Input;
 use wire::integer::IntRead;
 
 // The column in a slot, or in a word.
-pub fn column_in(slot: u64) -> Column
+pub(crate) fn column_in(slot: u64) -> Column
     ensures { λ r. ⌜ r ≡ asColumn (entryIn slot) ⌝ }
 {
     Column {
@@ -135,7 +135,7 @@ fn any_set(section: &[u8], at: usize, n: usize) -> bool
 }
 
 // Opens original row data of the columns in `count` slots: the map is whole, no chapter's bit is set. Where the fields start.
-pub fn open_original(
+pub(crate) fn open_original(
     slots: &[u64; 512],
     first: usize,
     count: usize,
@@ -198,7 +198,7 @@ fn check_maps(
 }
 
 // Opens update data of the columns in `count` slots: both maps are whole and keep all rules. Where the fields start.
-pub fn open_update(
+pub(crate) fn open_update(
     slots: &[u64; 512],
     first: usize,
     count: usize,

@@ -94,7 +94,7 @@ fn paired_id(slots: &[u64; 512], section: &[u8], at: usize, child: usize) -> Int
 }
 
 // The head of the element at `at`, where `child` is the schema number of an 87 element directly before it, else 0.
-pub fn head_at<'a>(
+pub(crate) fn head_at<'a>(
     slots: &'a [u64; 512],
     numbers: &'a [u8; 256],
     schemas: usize,

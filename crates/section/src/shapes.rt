@@ -108,7 +108,7 @@ fn add_schema(
 }
 
 // The words of update data: one for each slot of a column.
-pub fn add_updates(slots: &[u64; 512], words: &mut [u64; 512])
+pub(crate) fn add_updates(slots: &[u64; 512], words: &mut [u64; 512])
     requires { ⌜ length (now words) ≡ 512 ⌝ }
     ensures { λ r. ⌜ AllUpdates (now (slots .entry)) (now (words .entry)) (now (words .exit)) ⌝ }
 {
@@ -120,7 +120,12 @@ pub fn add_updates(slots: &[u64; 512], words: &mut [u64; 512])
 }
 
 // The steps and forms of all schemas in a table of slots.
-pub fn add_forms(slots: &[u64; 512], schemas: usize, words: &mut [u64; 512], forms: &mut [u64; 256])
+pub(crate) fn add_forms(
+    slots: &[u64; 512],
+    schemas: usize,
+    words: &mut [u64; 512],
+    forms: &mut [u64; 256],
+)
     requires { ⌜ Sound (now slots) schemas × (length (now words) ≡ 512) × (length (now forms) ≡ 256) ⌝ }
     ensures { λ r. ⌜ AllForms (now (slots .entry)) schemas (now (words .entry)) (now (words .exit)) (now (forms .exit)) ⌝ }
 {

@@ -34,7 +34,7 @@ fn bit_in(map: &[u8], i: usize) -> usize
 
 // 1 where a row has a field for a word, else 0, by its maps at `map` and `force`: of update data by the column's number. No branch
 // depends on a bit.
-pub fn has_word(
+pub(crate) fn has_word(
     section: &[u8],
     update: bool,
     map: usize,
@@ -68,7 +68,7 @@ fn length_at(section: &[u8], at: usize, size: usize) -> usize
 }
 
 // The bytes that a field at `at` takes, by its word; none where `has` is 0. No branch depends on `has`.
-pub fn span_at(word: u64, section: &[u8], at: usize, has: usize) -> Span
+pub(crate) fn span_at(word: u64, section: &[u8], at: usize, has: usize) -> Span
     requires { ⌜ (widthOfWord word ≡ width (columnOf word)) × (has ≤ 1) ⌝ }
     ensures { λ r. ⌜ SpanIs (columnOf word) (now (section .entry)) at has r ⌝ }
 {

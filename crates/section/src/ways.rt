@@ -23,7 +23,7 @@ pub enum Way {
 }
 
 // The way over the data at `start` of a row of schema `number`: of update data where `update` says so.
-pub fn way_over<'a>(
+pub(crate) fn way_over<'a>(
     slots: &'a [u64; 512],
     words: &'a [u64; 512],
     forms: &'a [u64; 256],
