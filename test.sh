@@ -15,6 +15,7 @@ if [ "$(rt version)" != "$(cat KIT)" ]; then
 fi
 
 step rt fmt --check
+step python3 tools/check_promises.py
 
 echo "== rt ci"
 rt ci >"$log" 2>&1
