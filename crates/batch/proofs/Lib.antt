@@ -1,0 +1,5 @@
+pub mod Places
+pub mod Parts
+pub mod Laid
+pub mod Pass
+pub mod Finding
