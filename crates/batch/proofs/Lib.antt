@@ -3,3 +3,4 @@ pub mod Parts
 pub mod Laid
 pub mod Pass
 pub mod Finding
+pub mod Alike
