@@ -12,29 +12,39 @@ use lib.Seq.{take-at}
 use lib.Dec.{leb, ltb, eqb}
 use borrow.Author.Tests.{eqb-true, le-leb}
 use Rattle.wire.specs.declared.error.Input.the-variants as input
-use Rattle.wire.specs.Read.{Bytes, AreBytes, Read, ok, _>>=_, pick, check, about, limit, sized}
+use Rattle.wire.specs.Read.{Bytes, AreBytes, Read, ok, bad, _>>=_, pick, check, about, limit, sizedBy, sized, whole}
+use Rattle.wire.specs.Bits.{bitAt, bitSet, mapBytes}
+use Rattle.wire.specs.Integers.{valueOf, intAt, readInt}
 use Rattle.wire.proofs.Laws.{sized-within}
 use Rattle.wire.proofs.Pieces.{bind-ok, about-ok, ok-ok}
 use Rattle.column.specs.declared.column.Column.{Column}
-use Rattle.schema.specs.Numbers.{numberLimit}
-use Rattle.schema.specs.Reader.{fileOf}
-use Rattle.schema.specs.Schemas.{Schema, schema, asColumn, schemasOf, readSchemas, schemaAt, columnsOf, numberFrom, childNumber}
+use Rattle.column.specs.Types.{types, kindIn, kindOf}
+use Rattle.column.specs.Columns.{isNullable, prefixSize, lengthError}
+use Rattle.column.specs.Fields.{allowed, bytesAt, variableAt, fieldAt}
+use Rattle.schema.specs.Numbers.{numberLimit, thirdGroup, secondGroup, numberIn}
+use Rattle.schema.specs.Tree.{member}
+use Rattle.schema.specs.Reader.{readNumber, readRange, readFixed, readVariable, readChapter, readKind, readColumn, readColumns, readSchema, ended, readFile, fileOf}
+use Rattle.schema.specs.Schemas.{Schema, schema, asColumn, ownColumns, nestedSchemas, schemasOf, readSchemas, schemaAt, columnsOf, numberFrom, childNumber}
 use Rattle.schema.proofs.SchemaLists.{SchemasRange, no-schema, a-schema, schemas-range}
 use Rattle.schema.proofs.Theorem.{file-of-iff}
 use Rattle.schema.proofs.Questions.{with-alone}
-use Rattle.row.specs.Rows.{Answer, lookUp}
+use Rattle.schema.specs.Questions.{withSchema}
+use Rattle.row.specs.Presence.{nullables, presenceBytes, marks, bitOf, present, chapterPresent, clear}
+use Rattle.row.specs.Rows.{Answer, step, walk, arrive, opened, fieldOf, columnOf, known, lookUp}
+use Rattle.row.specs.Rows as row
 use Rattle.plan.specs.declared.plan.Plan.{Plan}
 use Rattle.plan.specs.Plans.{plannedRow}
 use Rattle.grammar.specs.Grammar.{Row, columnsAt}
 use Rattle.grammar.proofs.Demand as grammar
 use Rattle.grammar.proofs.Usable.{RowAt, Usable, parent-row, unchanged-row, changed-row, deleted-row, Each, each-end, each-next, rows-usable}
 use Rattle.section.specs.Table.{tableNumbers, rowsRead, tableAfter}
-use Rattle.batch.specs.Spans.{rowsFrom, rowsOf, ownerOf, Span, spanOf, moved, spanIn, spansIn, spansBy, planned, spansFound}
+use Rattle.batch.specs.Spans.{rowsFrom, rowsOf, parents, ownerOf, Span, span, chapterMark, spanOf, moved, spanIn, spansIn, spansBy, planned, spansFound}
 use Rattle.batch.proofs.Alike.{batch-alike}
 use Rattle.adtg.specs.Plans as adtg
 use Rattle.adtg.specs.Plans.{planIn}
 use Rattle.adtg.specs.Rows.{lookUpIn}
 use Rattle.adtg.proofs.Selected.{asks-columns, plan-columns}
+use Rattle.demands.specs.Examples.{T, sectionT}
 use Rattle.demands.specs.Sections.{Given, listing}
 use Rattle.demands.specs.Batches.{walked, owned, Owner, parent-rows, child-rows, SpansOf, no-row, a-row}
 use Rattle.demands.proofs.Plans.{plan-route-is-walk}
@@ -209,3 +219,18 @@ module _ (file s : Bytes) (S : List Schema) (bytes : AreBytes file) (g : Given f
         let front : take (4 * length rs) (listing rs table) ≡ tableNumbers rs = take-at (tableNumbers rs) (drop (4 * length rs) table) (4 * length rs) (length-numbers rs) in
         let (xs, q, n) = rows-span (rows-usable S s rs (grammar.table-iff-split S s rs .1 (es, sp, r))) in
         (xs, rw (after, front, rows-of-numbers rs, sized-within s (g .within), q, le-leb (2 * length xs) room (omega arith)) refl, n)
+
+-- Over the rows that T's section lists, the child's byte stands at 10, the parent's integer at 1, and the parent's second column is a
+-- chapter. A column that is not there refuses, and so does too little room.
+
+abbrev T-rows : List ℕ
+T-rows = 1 ∷ 0 ∷ 1 ∷ 0 ∷ 3 ∷ 7 ∷ 10 ∷ 16 ∷ []
+
+pub T-batches :
+    (spansBy (walked T 1 0) sectionT T-rows 7 2 ≡ ok (span 10 11 ∷ []))
+    × (spansBy (walked T 0 0) sectionT T-rows parents 2 ≡ ok (span 1 5 ∷ []))
+    × (spansBy (walked T 0 1) sectionT T-rows parents 2 ≡ ok (span chapterMark chapterMark ∷ []))
+    × (spansBy (walked T 0 2) sectionT T-rows parents 2 ≡ bad 18 0 input.Column)
+    × (spansBy (walked T 0 0) sectionT T-rows parents 1 ≡ bad 16 1 input.Output)
+unfolding sized sizedBy check whole types kindIn kindOf thirdGroup secondGroup numberIn member readNumber readRange readFixed readVariable readChapter readKind readColumn readColumns readSchema ended readFile fileOf ownColumns nestedSchemas schemasOf readSchemas schemaAt withSchema about bitAt bitSet mapBytes valueOf intAt readInt isNullable prefixSize lengthError allowed bytesAt variableAt fieldAt nullables presenceBytes marks bitOf present chapterPresent clear step walk arrive opened row.walked fieldOf columnOf known lookUp lookUpIn columnsOf rowsFrom ownerOf spanOf moved spanIn spansIn spansBy
+T-batches = (refl, refl, refl, refl, refl)
