@@ -21,7 +21,7 @@ use Rattle.plan.specs.Handles.{handled}
 use Rattle.plan.proofs.Handled.{not-opened}
 use Rattle.plan.proofs.Inside.{row-inside}
 use Rattle.batch.specs.Spans.{rowAt, parents, ownerOf, startIn, Span, span, nullMark, chapterMark, spanOf, isRow, moved, spanIn, planned}
-use Rattle.batch.proofs.Places.{inside-row, inside-told}
+use Rattle.batch.proofs.Places.{row-errors, error-inside}
 
 -- Owners.
 
@@ -108,6 +108,6 @@ module _ (p : Plan) (s : Bytes) (start column from : ℕ) (f : from ≡ startIn 
 
   pub refused-inside : (e : Error) → lookedUp p s column from ≡ refused e → from + e .offset ≤ length s
   refused-inside e h =
-      let x : e .offset ≤ length (drop from s) = inside-told (inside-row (drop from s) p column) (looked h) in
+      let x : e .offset ≤ length (drop from s) = error-inside (row-errors (drop from s) p column) (looked h) in
       let n : length (drop from s) ≡ length s - from = length-drop from s in
       omega arith

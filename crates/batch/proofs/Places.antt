@@ -24,18 +24,13 @@ use Rattle.plan.specs.Packed.{unpacked, bitIn, widthIn}
 use Rattle.plan.specs.Plans.{isStop, plannedWord, plannedColumn, plannedMark, plannedGap, plannedCount, plannedMap, plannedMarked, stopsTo, fieldIn, passedVariable, passed, visit, visits, jumped, landed, unset, plannedKnown, plannedOpen, plannedAnswer, plannedLookUp, plannedRow}
 
 -- if the answer is an error, its offset is at most n
-pub data Inside {A : Type 0} (n : ℕ) : Read A → Type 0 where
+data Inside {A : Type 0} (n : ℕ) : Read A → Type 0 where
   answered : {a : A} → Inside n (ok a)
   refused : {code offset : ℕ} {name : Input} → offset ≤ n → Inside n (bad code offset name)
 
 inside-bind : {A B : Type 0} {n : ℕ} {r : Read A} {g : A → Read B} → Inside n r → ((a : A) → r ≡ ok a → Inside n (g a)) → Inside n (r >>= g)
 inside-bind answered k = k _ refl
 inside-bind (refused h) k = refused h
-
-inside-about : {A : Type 0} {n : ℕ} {r : Read A} (name : Input) → Inside n r → Inside n (about name r)
-unfolding about
-inside-about name answered = answered
-inside-about name (refused h) = refused h
 
 inside-check : {n : ℕ} (t : Bool) (c p : ℕ) → (t ≡ false → p ≤ n) → Inside n (check t c p)
 unfolding check
@@ -46,9 +41,31 @@ inside-pick : {A : Type 0} {n : ℕ} (t : Bool) {a b : Read A} → Inside n a �
 inside-pick true x y = x
 inside-pick false x y = y
 
-pub inside-told : {A : Type 0} {n c o : ℕ} {r : Read A} {i : Input} → Inside n r → r ≡ bad c o i → o ≤ n
-inside-told answered e = let z : _≡_ {A = ℕ} 0 1 = cc in absurd (omega arith)
-inside-told {o = o} (refused {offset = p} h) e = let v : p ≡ o = cc in omega arith
+-- The errors of a look-up: about the row, at most n into it; about the column number.
+pub data RowErrors {A : Type 0} (n : ℕ) : Read A → Type 0 where
+  no-error : {a : A} → RowErrors n (ok a)
+  in-row : {code offset : ℕ} → offset ≤ n → RowErrors n (bad code offset input.Row)
+  of-column : RowErrors n (bad 18 0 input.Column)
+
+errors-bind : {A B : Type 0} {n : ℕ} {r : Read A} {g : A → Read B} → RowErrors n r → ((a : A) → RowErrors n (g a)) → RowErrors n (r >>= g)
+errors-bind no-error k = k _
+errors-bind (in-row h) k = in-row h
+errors-bind of-column k = of-column
+
+about-row : {A : Type 0} {n : ℕ} {r : Read A} → Inside n r → RowErrors n (about input.Row r)
+unfolding about
+about-row answered = no-error
+about-row (refused h) = in-row h
+
+about-column : {n : ℕ} (t : Bool) → RowErrors n (about input.Column (check t 18 0))
+unfolding about check
+about-column true = no-error
+about-column false = of-column
+
+pub error-inside : {A : Type 0} {n c o : ℕ} {r : Read A} {i : Input} → RowErrors n r → r ≡ bad c o i → o ≤ n
+error-inside no-error e = let z : _≡_ {A = ℕ} 0 1 = cc in absurd (omega arith)
+error-inside {o = o} (in-row {offset = p} h) e = let v : p ≡ o = cc in omega arith
+error-inside {o = o} of-column e = let v : 0 ≡ o = cc in omega arith
 
 module _ (row : Bytes) where
   inside-whole : (at n : ℕ) → Inside (length row) (whole row at n)
@@ -109,12 +126,12 @@ module _ (row : Bytes) where
         (λ w _. inside-bind (inside-bind (inside-field (plannedWord p k) (w .at)) (λ _ _. answered)) (λ _ _. answered))) answered)
 
     -- every error of a look-up
-    pub inside-row : Inside (length row) (plannedRow p row k)
+    pub row-errors : RowErrors (length row) (plannedRow p row k)
     unfolding plannedRow plannedLookUp plannedKnown plannedOpen sized sizedBy
-    inside-row =
-        inside-bind (inside-about input.Row (inside-check (leb (length row) limit) 19 0 (λ _. omega arith)))
-        (λ _ _.
-        inside-bind (inside-about input.Column (inside-check (ltb k (plannedCount p)) 18 0 (λ _. omega arith)))
-        (λ _ _.
-        inside-bind (inside-about input.Row (inside-bind (inside-whole 0 (plannedMap p)) (λ _ _. inside-bind (inside-unset (plannedMarked p)) (λ _ _. answered))))
-        (λ _ _. inside-about input.Row inside-answer)))
+    row-errors =
+        errors-bind (about-row (inside-check (leb (length row) limit) 19 0 (λ _. omega arith)))
+        (λ _.
+        errors-bind (about-column (ltb k (plannedCount p)))
+        (λ _.
+        errors-bind (about-row (inside-bind (inside-whole 0 (plannedMap p)) (λ _ _. inside-bind (inside-unset (plannedMarked p)) (λ _ _. answered))))
+        (λ _. about-row inside-answer)))

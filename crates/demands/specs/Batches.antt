@@ -1,15 +1,18 @@
 -- What is said of a batch: one column of every row of one table.
 -- Assumes nothing.
-use Prim.Native.Nat.{ℕ}
+use Prim.Native.Nat.{ℕ, _≤_}
 use mathlib.Core.Path.{_≡_}
 use mathlib.Core.List.{List, [], _∷_}
 use mathlib.Core.Option.{some}
+use lib.ListN.{length}
 use lib.Dec.{eqb}
+use Rattle.wire.specs.declared.error.Input.{Input}
+use Rattle.wire.specs.declared.error.Input.the-variants as input
 use Rattle.wire.specs.Read.{Bytes, Read, ok, pick}
 use Rattle.row.specs.Rows.{Answer}
 use Rattle.schema.specs.Schemas.{Schema, childNumber}
 use Rattle.grammar.specs.Grammar.{Row}
-use Rattle.batch.specs.Spans.{parents, ownerOf, Span, spanIn}
+use Rattle.batch.specs.Spans.{parents, ownerOf, Span, span, nullMark, chapterMark, spanIn}
 use Rattle.adtg.specs.Rows.{lookUpIn}
 
 -- a column's look-up by the walk, in a schema of a file
@@ -30,3 +33,15 @@ pub data Owner (S : List Schema) : (owner number : ℕ) → Type 0 where
 pub data SpansOf (look : Bytes → Read Answer) (s : Bytes) : List Row → List Span → Type 0 where
   no-row : SpansOf look s [] []
   a-row : {r : Row} {rs : List Row} {x : Span} {xs : List Span} → spanIn look s (r .original) ≡ ok x → SpansOf look s rs xs → SpansOf look s (r ∷ rs) (x ∷ xs)
+
+-- A span lies in the section, or is one of the two marks.
+pub data Lies (s : Bytes) : Span → Type 0 where
+  lies : {a b : ℕ} → a ≤ b → b ≤ length s → Lies s (span a b)
+  is-null : Lies s (span nullMark nullMark)
+  is-chapter : Lies s (span chapterMark chapterMark)
+
+-- The errors that there are: of the section, at a place in it or its end; of the column number; of the room.
+pub data BatchError (s : Bytes) : (code offset : ℕ) → Input → Type 0 where
+  in-section : {code offset : ℕ} → offset ≤ length s → BatchError s code offset input.Section
+  no-column : BatchError s 18 0 input.Column
+  no-room : {spans : ℕ} → BatchError s 16 spans input.Output
