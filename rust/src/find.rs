@@ -132,6 +132,8 @@ impl Found {
 
 #[cfg(test)]
 mod tests {
+    use std::mem::{offset_of, size_of};
+
     use super::*;
     use crate::tests::{ROW, S, T};
     use crate::{look_up, ErrorKind, Input};
@@ -157,6 +159,18 @@ mod tests {
         }
         let chapter = Plan::make(&T, 0).unwrap().look_up(&[5, 0, 0, 0], 1);
         assert_eq!(chapter, Ok(Answer::Chapter));
+    }
+
+    #[test]
+    fn a_reply_is_laid_out_as_in_the_header() {
+        assert_eq!(size_of::<Found>(), 32);
+        let places = [
+            offset_of!(Found, kind),
+            offset_of!(Found, first),
+            offset_of!(Found, second),
+            offset_of!(Found, prefixes),
+        ];
+        assert_eq!(places, [4, 8, 16, 24]);
     }
 
     #[test]

@@ -179,6 +179,8 @@ impl Value for usize {
 
 #[cfg(test)]
 mod tests {
+    use std::mem::{offset_of, size_of};
+
     use super::*;
 
     fn reply(code: u32, first: &[u64]) -> Reply<usize> {
@@ -216,6 +218,18 @@ mod tests {
     #[should_panic(expected = "a reply without a meaning: 21 [9, 0,")]
     fn a_reply_without_a_meaning_is_no_answer() {
         let _ = reply(21, &[9]).result();
+    }
+
+    #[test]
+    fn the_reply_of_a_plan_is_laid_out_as_in_the_header() {
+        assert_eq!(size_of::<Plan>(), 8 * Plan::NUMBERS);
+        assert_eq!(size_of::<PlanReply>(), 24 + 8 * Plan::NUMBERS);
+        let places = [
+            offset_of!(PlanReply, offset),
+            offset_of!(PlanReply, input),
+            offset_of!(PlanReply, plan),
+        ];
+        assert_eq!(places, [8, 16, 24]);
     }
 
     #[test]
