@@ -137,6 +137,7 @@ mod tests {
         assert_eq!(rows.iter().collect::<Vec<Row>>(), [parent, changed]);
         assert_eq!((rows.len(), rows.is_empty()), (2, false));
         assert_eq!((rows.get(1), rows.get(2)), (Some(changed), None));
+        assert_eq!(rows.get(usize::MAX), None);
         assert_eq!(rows.numbers(), [1, 0, 1, 0, 3, 7, 10, 16]);
         assert_eq!(table[8..], [9; 3]);
         let (row, update) = (&SECTION[10..], &SECTION[16..]);

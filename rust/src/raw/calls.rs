@@ -178,12 +178,12 @@ extern "C" {
     ) -> Found;
 }
 
-/// `adtg_read_header`
+/// Calls `adtg_read_header`.
 pub fn read_header(bytes: &[u8]) -> Reply<Header> {
     Reply::of(|out| unsafe { adtg_read_header(bytes.as_ptr(), bytes.len(), out) })
 }
 
-/// `adtg_write_header`
+/// Calls `adtg_write_header`.
 pub fn write_header(
     major: u8,
     minor: u8,
@@ -204,19 +204,19 @@ pub fn write_header(
     })
 }
 
-/// `adtg_write_header_short`
+/// Calls `adtg_write_header_short`.
 pub fn write_header_short(major: u8, minor: u8, output: &mut [u8]) -> Reply<usize> {
     Reply::of(|out| unsafe {
         adtg_write_header_short(major, minor, output.as_mut_ptr(), output.len(), out)
     })
 }
 
-/// `adtg_read_options`
+/// Calls `adtg_read_options`.
 pub fn read_options(bytes: &[u8]) -> Reply<Options> {
     Reply::of(|out| unsafe { adtg_read_options(bytes.as_ptr(), bytes.len(), out) })
 }
 
-/// `adtg_write_options`
+/// Calls `adtg_write_options`.
 pub fn write_options(strings: [&[u8]; 3], async_option: u16, output: &mut [u8]) -> Reply<usize> {
     let [first, second, third] = strings;
     Reply::of(|out| unsafe {
@@ -235,27 +235,27 @@ pub fn write_options(strings: [&[u8]; 3], async_option: u16, output: &mut [u8]) 
     })
 }
 
-/// `adtg_read_schema`
+/// Calls `adtg_read_schema`.
 pub fn read_schema(file: &[u8]) -> Reply<Counts> {
     Reply::of(|out| unsafe { adtg_read_schema(file.as_ptr(), file.len(), out) })
 }
 
-/// `adtg_schema_columns`
+/// Calls `adtg_schema_columns`.
 pub fn schema_columns(file: &[u8], number: usize) -> Reply<usize> {
     Reply::of(|out| unsafe { adtg_schema_columns(file.as_ptr(), file.len(), number, out) })
 }
 
-/// `adtg_schema_column`
+/// Calls `adtg_schema_column`.
 pub fn schema_column(file: &[u8], number: usize, column: usize) -> Reply<Column> {
     Reply::of(|out| unsafe { adtg_schema_column(file.as_ptr(), file.len(), number, column, out) })
 }
 
-/// `adtg_schema_of_child`
+/// Calls `adtg_schema_of_child`.
 pub fn schema_of_child(file: &[u8], id: u32) -> Reply<usize> {
     Reply::of(|out| unsafe { adtg_schema_of_child(file.as_ptr(), file.len(), id, out) })
 }
 
-/// `adtg_write_schema`
+/// Calls `adtg_write_schema`.
 pub fn write_schema(numbers: &[u32], output: &mut [u8]) -> Reply<usize> {
     Reply::of(|out| unsafe {
         adtg_write_schema(
@@ -268,7 +268,7 @@ pub fn write_schema(numbers: &[u32], output: &mut [u8]) -> Reply<usize> {
     })
 }
 
-/// `adtg_schema_numbers`
+/// Calls `adtg_schema_numbers`.
 pub fn schema_numbers(file: &[u8], table: &mut [u32]) -> Reply<usize> {
     Reply::of(|out| unsafe {
         adtg_schema_numbers(
@@ -281,7 +281,7 @@ pub fn schema_numbers(file: &[u8], table: &mut [u32]) -> Reply<usize> {
     })
 }
 
-/// `adtg_read_section`
+/// Calls `adtg_read_section`.
 pub fn read_section(file: &[u8], section: &[u8], table: &mut [u32]) -> Reply<usize> {
     Reply::of(|out| unsafe {
         adtg_read_section(
@@ -296,7 +296,7 @@ pub fn read_section(file: &[u8], section: &[u8], table: &mut [u32]) -> Reply<usi
     })
 }
 
-/// `adtg_look_up`
+/// Calls `adtg_look_up`.
 pub fn look_up(file: &[u8], number: usize, row: &[u8], column: usize) -> Reply<Answer> {
     Reply::of(|out| unsafe {
         adtg_look_up(
@@ -311,7 +311,7 @@ pub fn look_up(file: &[u8], number: usize, row: &[u8], column: usize) -> Reply<A
     })
 }
 
-/// `adtg_field_count`
+/// Calls `adtg_field_count`.
 pub fn field_count(file: &[u8], number: usize, row: &[u8]) -> Reply<usize> {
     Reply::of(|out| unsafe {
         adtg_field_count(
@@ -325,7 +325,7 @@ pub fn field_count(file: &[u8], number: usize, row: &[u8]) -> Reply<usize> {
     })
 }
 
-/// `adtg_row_end`
+/// Calls `adtg_row_end`.
 pub fn row_end(file: &[u8], number: usize, row: &[u8], at: usize) -> Reply<usize> {
     Reply::of(|out| unsafe {
         adtg_row_end(
@@ -340,7 +340,7 @@ pub fn row_end(file: &[u8], number: usize, row: &[u8], at: usize) -> Reply<usize
     })
 }
 
-/// `adtg_look_update`
+/// Calls `adtg_look_update`.
 pub fn look_update(file: &[u8], number: usize, update: &[u8], column: usize) -> Reply<Change> {
     Reply::of(|out| unsafe {
         adtg_look_update(
@@ -355,7 +355,7 @@ pub fn look_update(file: &[u8], number: usize, update: &[u8], column: usize) -> 
     })
 }
 
-/// `adtg_update_end`
+/// Calls `adtg_update_end`.
 pub fn update_end(file: &[u8], number: usize, update: &[u8], at: usize) -> Reply<usize> {
     Reply::of(|out| unsafe {
         adtg_update_end(
@@ -370,7 +370,7 @@ pub fn update_end(file: &[u8], number: usize, update: &[u8], at: usize) -> Reply
     })
 }
 
-/// `adtg_current`
+/// Calls `adtg_current`.
 pub fn current(
     file: &[u8],
     number: usize,
@@ -393,7 +393,7 @@ pub fn current(
     })
 }
 
-/// `adtg_write_original`
+/// Calls `adtg_write_original`.
 pub fn write_original(
     file: &[u8],
     number: usize,
@@ -419,7 +419,7 @@ pub fn write_original(
     })
 }
 
-/// `adtg_write_update`
+/// Calls `adtg_write_update`.
 pub fn write_update(
     file: &[u8],
     number: usize,
@@ -445,29 +445,29 @@ pub fn write_update(
     })
 }
 
-/// `adtg_make_plan`
+/// Calls `adtg_make_plan`.
 pub fn make_plan(file: &[u8], number: usize) -> PlanReply {
     unsafe { adtg_make_plan(file.as_ptr(), file.len(), number) }
 }
 
-/// `adtg_check_plan`
+/// Calls `adtg_check_plan`.
 pub fn check_plan(plan: &Plan, file: &[u8], number: usize) -> Reply<()> {
     Reply::of(|out| unsafe {
         adtg_check_plan(plan.clone(), file.as_ptr(), file.len(), number, out)
     })
 }
 
-/// `adtg_fixed_place`
+/// Calls `adtg_fixed_place`.
 pub fn fixed_place(plan: &Plan, column: usize) -> Reply<Option<usize>> {
     Reply::of(|out| unsafe { adtg_fixed_place(plan.clone(), column, out) })
 }
 
-/// `adtg_open_row`
+/// Calls `adtg_open_row`.
 pub fn open_row(plan: &Plan, row: &[u8]) -> Reply<usize> {
     Reply::of(|out| unsafe { adtg_open_row(plan.clone(), row.as_ptr(), row.len(), out) })
 }
 
-/// `adtg_planned_look_up`
+/// Calls `adtg_planned_look_up`.
 #[inline]
 pub fn planned_look_up(
     numbers: &[u64; Plan::NUMBERS],

@@ -16,6 +16,7 @@ pub const UNTOUCHED: u64 = 0xA5A5_5A5A_DEAD_BEEF;
 const OF_ERROR: usize = 2;
 
 /// The reply of a call that answers a `T` or an error.
+#[derive(Clone, Debug, PartialEq, Eq)]
 pub struct Reply<T> {
     /// 0, or the number of the error.
     pub code: u32,
