@@ -41,7 +41,7 @@
 //! | [`head`] | header and handler options |
 //! | [`schema`] | schema files |
 //! | [`row`], [`update`] | look-ups in rows, update data and changed rows, with the schema file |
-//! | [`write`] | the writers of rows and update data |
+//! | [`mod@write`] | the writers of rows and update data |
 //! | [`section`] | row sections and the table of their rows |
 //! | [`plan`], [`find`] | plans, and look-ups through them |
 //! | [`raw`] | the calls and their replies as they are |
