@@ -319,7 +319,7 @@ module _ (file : Bytes) (number : ℕ) where
   unfolding fieldCountIn fieldCount
   field-count-refused s code offset i e =
       told
-      (with-columns file number _ here (in-lent (there here) (of-sized s))
+      (with-columns file number (λ cs. fieldCount cs s) here (in-lent (there here) (of-sized s))
       (λ cs. and-then (in-lent (there here) (of-sized s)) (λ _. and-then (in-row-lent (there here) (row.of-opened s cs 0)) (λ _. answers))))
       e
 
@@ -353,7 +353,7 @@ module _ (file : Bytes) (number : ℕ) where
   pub plan-refused :
       (code offset : ℕ) (i : Input) → planIn file number ≡ bad code offset i → Refusal (lent input.Schema file ∷ []) code offset i
   unfolding planIn
-  plan-refused code offset i e = told (with-columns file number _ here answers (λ _. answers)) e
+  plan-refused code offset i e = told (with-columns file number (λ cs. ok (planOf cs)) here answers (λ _. answers)) e
 
 -- A row section is refused by number and place, or for want of room.
 pub section-refused :
