@@ -1,36 +1,37 @@
 -- Demand 1: each refusal carries a number of the paper's table and its place, and after it what was lent is as it was.
 -- Assumes nothing.
-use Prim.Native.Nat.{ℕ, zero, suc, _+_, _*_, _≤_, _<_}
+use Prim.Native.Nat.{ℕ, _+_, _*_, _/_, _≤_, _<_}
 use mathlib.Core.Path.{_≡_, refl, sym, ap, _∙_}
 use mathlib.Core.List.{List, [], _∷_, map}
-use mathlib.Core.Bool.{Bool, true, false}
+use mathlib.Core.Bool.{Bool, true, false, not, true≢false}
 use mathlib.Core.Logic.{_⊎_, inl, inr}
 use native.Mathlib.Omega.{arith}
 use lib.ListN.{length, getD, drop}
 use lib.Dec.{leb, ltb, eqb}
-use borrow.Author.Tests.{leb-false}
+use borrow.Author.Tests.{leb-true, leb-false}
 use Rattle.wire.specs.declared.error.Input.{Input}
 use Rattle.wire.specs.declared.error.Input.the-variants as input
-use Rattle.wire.specs.Read.{Bytes, Read, ok, bad, _>>=_, pick, check, about, limit, sizedBy, sized, whole, byteAt, constants}
+use Rattle.wire.specs.Read.{Bytes, Read, ok, bad, _>>=_, pick, about, limit, sizedBy, sized, whole, byteAt, constants}
 use Rattle.wire.specs.Bits.{bitSet}
 use Rattle.wire.specs.Integers.{readInt}
 use Rattle.wire.specs.declared.output.Written.{Written}
 use Rattle.wire.specs.Output.{outputAfter, sizeOf, toldWritten, Wrote}
+use Rattle.wire.proofs.Laws.{bit-past}
 use Rattle.wire.proofs.Pieces.{bad-ok, bind-ok, whole-ok}
-use Rattle.header.specs.declared.options.Span.{Span}
 use Rattle.header.specs.declared.options.Spans.{Spans}
 use Rattle.header.specs.Header.{signature, headerFields, headerOf}
 use Rattle.header.specs.Options.{token, guid, asyncAllowed, spanAt, spansOf, asyncRest, optionsRest, optionsSized, optionsOf}
 use Rattle.column.specs.declared.column.Column.{Column}
-use Rattle.column.specs.Columns.{isChapter}
-use Rattle.row.specs.Presence.{noColumn, Mark, marks, markOf, present}
-use Rattle.row.specs.Rows.{Answer, arrive, opened, walked, rowEnd, fieldOf, columnOf, known, lookUp, fieldCount}
-use Rattle.row.specs.Updates.{UpdateAnswer, numbered, updateBytes, carriedIn, updateWalked, updateEnd, updateField, updateColumn, lookUpdate, fromRow, currentBy, current}
+use Rattle.column.specs.Columns.{isChapter, isVariable}
+use Rattle.column.specs.Fields.{bytesAt, variableAt}
+use Rattle.row.specs.Presence.{noColumn, one, mark, marks, markOf, present}
+use Rattle.row.specs.Rows.{Place, Answer, arrive, walked, fieldOf, columnOf, known, lookUp, fieldCount}
+use Rattle.row.specs.Updates.{UpdateAnswer, numbered, updateBytes, carriedIn, updateWalked, updateField, updateColumn, lookUpdate, fromRow, currentBy, current}
 use Rattle.row.specs.Rows as rows
 use Rattle.row.specs.Updates as update
 use Rattle.schema.specs.Tree.{Tree}
 use Rattle.schema.specs.Reader.{readFile, fileOf}
-use Rattle.schema.specs.Schemas.{Schema, Entry, asColumn, schemasOf, readSchemas, schemaAt}
+use Rattle.schema.specs.Schemas.{Schema, asColumn, readSchemas, schemaAt}
 use Rattle.schema.specs.Questions.{alone, withSchema}
 use Rattle.schema.specs.declared.listing.Listed.{Listed}
 use Rattle.schema.specs.Writer.{toldListed, Lists}
@@ -41,15 +42,18 @@ use Rattle.grammar.proofs.RowErrors as row
 use Rattle.grammar.proofs.Errors.{Reason, in-row, unknown-token, unknown-id, change-alone, delete-alone, section-errors}
 use Rattle.grammar.proofs.Errors as errors
 use Rattle.section.specs.declared.read.RowsRead.{RowsRead}
-use Rattle.section.specs.Table.{rowsRead, rowCount, tableAfter, toldRows}
+use Rattle.section.specs.Table.{rowsRead, tableAfter, toldRows}
 use Rattle.section.specs.Table as table
 use Rattle.grammar.specs.Grammar.{Row}
-use Rattle.plan.specs.Plans.{planOf}
-use Rattle.adtg.specs.InSchema.{both, inSchema}
+use Rattle.plan.specs.declared.plan.Plan.{Plan}
+use Rattle.plan.specs.Packed.{unpacked, widthIn, bitIn}
+use Rattle.plan.specs.Plans.{planOf, isStop, plannedColumn, plannedWord, plannedGap, plannedMap, plannedMarked, plannedMark, plannedCount, stopsTo, fieldIn, passedVariable, passed, visit, visits, jumped, landed, unset, plannedKnown, plannedOpen, plannedAnswer, plannedLookUp, plannedRow}
+use Rattle.plan.specs.Handles.{countsOpened, openedLookUp, handled}
+use Rattle.adtg.specs.InSchema.{inSchema}
 use Rattle.adtg.specs.Rows.{lookUpIn, fieldCountIn, rowEndIn}
-use Rattle.adtg.specs.Updates.{lookUpdateIn, updateEndIn, sizesOf, currentIn}
+use Rattle.adtg.specs.Updates.{lookUpdateIn, updateEndIn, currentIn}
 use Rattle.adtg.specs.Plans.{planIn}
-use Rattle.demands.specs.Sections.{Given, Over, file-over, section-over, Cause, size, in-file, in-section, no-room}
+use Rattle.demands.specs.Sections.{file-over, section-over, Cause, size, in-file, in-section, no-room}
 use Rattle.demands.specs.Refusals.{Standing, Lent, lent, Among, here, there, Refusal, standing, no-schema, no-column}
 use Rattle.demands.specs.Refusals as place
 use Rattle.demands.proofs.Sections.{refused-iff-cause}
@@ -250,6 +254,80 @@ module _ (cs : List Column) (s : Bytes) where
       go false true false = of-bind _ _ (of-update-walked k) (λ _ _. no-error)
       go false false v = no-error
 
+-- Errors of a look-up through any plan, made or not.
+
+bit-inside : (s : Bytes) (b : ℕ) → not (bitSet s b) ≡ false → b / 8 < length s
+bit-inside s b e = go (leb (length s) (b / 8)) refl
+  where
+    go : (t : Bool) → leb (length s) (b / 8) ≡ t → b / 8 < length s
+    go true q = absurd (true≢false (ap not (sym (bit-past s b (leb-true _ _ q))) ∙ e))
+    go false q = leb-false _ _ q
+
+module _ (p : Plan) (s : Bytes) where
+  of-unset : (bits : List ℕ) → OfError (RowErrorAt (length s)) (unset s bits)
+  unfolding unset
+  of-unset [] = no-error
+  of-unset (b ∷ bs) = of-bind _ _ (of-check (not (bitSet s b)) 12 (b / 8) (λ e. row.chapter-bit (bit-inside s b e))) (λ _ _. of-unset bs)
+
+  of-planned-open : OfError (RowErrorAt (length s)) (plannedOpen p s)
+  unfolding plannedOpen
+  of-planned-open = of-bind _ _ (row.of-whole s 0 (plannedMap p)) (λ _ _. of-bind _ _ (of-unset (plannedMarked p)) (λ _ _. no-error))
+
+  of-passed-variable : (c : Column) (bit : ℕ) (w : Place) → OfError (RowErrorAt (length s)) (passedVariable c bit s w)
+  unfolding passedVariable
+  of-passed-variable c bit w = go (present s (mark c bit))
+    where
+      go : (t : Bool) → OfError (RowErrorAt (length s)) (pick t (variableAt c s (w .at) >>= (λ f. ok (rows.past w f))) (ok w))
+      go true = of-bind _ _ (row.of-variable s c (w .at)) (λ _ _. no-error)
+      go false = no-error
+
+  of-passed : (n : ℕ) (w : Place) → OfError (RowErrorAt (length s)) (passed n s w)
+  unfolding passed
+  of-passed n w = go (isVariable (unpacked n))
+    where
+      go :
+          (t : Bool) →
+          OfError (RowErrorAt (length s))
+          (pick t (passedVariable (unpacked n) (bitIn n) s w) (ok (rows.place (w .at + widthIn n * one (bitSet s (bitIn n))) (w .prefixes))))
+      go true = of-passed-variable (unpacked n) (bitIn n) w
+      go false = no-error
+
+  of-visit : (k i : ℕ) (w : Place) → OfError (RowErrorAt (length s)) (visit p s k i w)
+  unfolding visit
+  of-visit k i w = go (ltb i k) (isStop (plannedColumn p i))
+    where
+      go : (t u : Bool) → OfError (RowErrorAt (length s)) (pick t (pick u (passed (plannedWord p i) s (rows.place (w .at + plannedGap p i) (w .prefixes))) (ok w)) (ok w))
+      go true true = of-passed (plannedWord p i) _
+      go true false = no-error
+      go false u = no-error
+
+  of-visits : (k : ℕ) (is : List ℕ) (w : Place) → OfError (RowErrorAt (length s)) (visits p s k is w)
+  unfolding visits
+  of-visits k [] w = no-error
+  of-visits k (i ∷ is) w = of-bind _ _ (of-visit k i w) (λ v _. of-visits k is v)
+
+  of-field-in : (n at : ℕ) → OfError (RowErrorAt (length s)) (fieldIn n s at)
+  unfolding fieldIn
+  of-field-in n at = go (isVariable (unpacked n))
+    where
+      go : (t : Bool) → OfError (RowErrorAt (length s)) (pick t (variableAt (unpacked n) s at) (bytesAt s at (widthIn n) 0))
+      go true = row.of-variable s (unpacked n) at
+      go false = row.of-bytes s at (widthIn n) 0
+
+  of-planned-answer : (k : ℕ) → OfError (RowErrorAt (length s)) (plannedAnswer p s k)
+  unfolding plannedAnswer jumped landed
+  of-planned-answer k = go (isChapter (plannedColumn p k)) (present s (plannedMark p k))
+    where
+      go :
+          (t u : Bool) →
+          OfError (RowErrorAt (length s))
+          (pick t (ok rows.chapter) (pick u (jumped p s k >>= λ w. landed (plannedWord p k) s w >>= (λ f. ok (rows.field f))) (ok rows.null)))
+      go true u = no-error
+      go false true =
+          of-bind _ _ (of-bind _ _ (of-visits k (stopsTo p k) _) (λ _ _. no-error))
+          (λ w _. of-bind _ _ (of-bind _ _ (of-field-in (plannedWord p k) (w .at)) (λ _ _. no-error)) (λ _ _. no-error))
+      go false false = no-error
+
 -- Calls with a schema file.
 
 module _ {inputs : List Lent} where
@@ -354,6 +432,34 @@ module _ (file : Bytes) (number : ℕ) where
       (code offset : ℕ) (i : Input) → planIn file number ≡ bad code offset i → Refusal (lent input.Schema file ∷ []) code offset i
   unfolding planIn
   plan-refused code offset i e = told (with-columns file number (λ cs. ok (planOf cs)) here answers (λ _. answers)) e
+
+module _ (p : Plan) (s : Bytes) (k : ℕ) where
+  planned-known : {inputs : List Lent} → Refuses (Refusal inputs) (plannedKnown p k)
+  unfolding plannedKnown
+  planned-known = named {Q = λ (c o : ℕ). (c ≡ 18) × (o ≡ 0)} input.Column (of-check (ltb k (plannedCount p)) 18 0 (λ _. (refl, refl))) (λ c o (x, y). rw (x, y) no-column)
+
+  planned-looked-up : Refuses (Refusal (lent input.Row s ∷ [])) (plannedRow p s k)
+  unfolding plannedRow plannedLookUp
+  planned-looked-up =
+      and-then (in-lent here (of-sized s))
+      (λ _. and-then planned-known (λ _. and-then (in-row-lent here (of-planned-open p s)) (λ _. in-row-lent here (of-planned-answer p s k))))
+
+  handle-looked-up : Refuses (Refusal (lent input.Row s ∷ [])) (openedLookUp p s k)
+  unfolding openedLookUp
+  handle-looked-up = and-then (in-lent here (of-sized s)) (λ _. and-then planned-known (λ _. in-row-lent here (of-planned-answer p s k)))
+
+  -- Of a look-up through any plan, made or not.
+  pub planned-refused : (code offset : ℕ) (i : Input) → plannedRow p s k ≡ bad code offset i → Refusal (lent input.Row s ∷ []) code offset i
+  planned-refused code offset i e = told planned-looked-up e
+
+  -- Of a look-up through any handle.
+  pub handled-refused : (start code offset : ℕ) (i : Input) → handled p start s k ≡ bad code offset i → Refusal (lent input.Row s ∷ []) code offset i
+  unfolding handled
+  handled-refused start code offset i e = told (go (countsOpened p start s)) e
+    where
+      go : (t : Bool) → Refuses (Refusal (lent input.Row s ∷ [])) (pick t (openedLookUp p s k) (plannedRow p s k))
+      go true = handle-looked-up
+      go false = planned-looked-up
 
 -- A row section is refused by number and place, or for want of room.
 pub section-refused :

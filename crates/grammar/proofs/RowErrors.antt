@@ -89,7 +89,7 @@ module _ (s : Bytes) where
   of-allowed Chapter maximum n at h = no-error
   of-allowed Unknown maximum n at h = no-error
 
-  of-bytes : (at w n : ℕ) → OfError (RowErrorAt (length s)) (bytesAt s at w n)
+  pub of-bytes : (at w n : ℕ) → OfError (RowErrorAt (length s)) (bytesAt s at w n)
   unfolding bytesAt
   of-bytes at w n = of-bind _ _ (of-whole at w) (λ _ _. no-error)
 
@@ -97,7 +97,7 @@ module _ (s : Bytes) where
   unfolding readInt
   of-int at n = of-bind _ _ (of-whole at n) (λ _ _. no-error)
 
-  of-variable : (c : Column) (at : ℕ) → OfError (RowErrorAt (length s)) (variableAt c s at)
+  pub of-variable : (c : Column) (at : ℕ) → OfError (RowErrorAt (length s)) (variableAt c s at)
   unfolding variableAt lengthError
   of-variable c at =
       of-bind _ _ (of-whole at (prefixSize c))
