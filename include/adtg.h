@@ -293,6 +293,26 @@ static inline adtg_found adtg_find_opened(const adtg_plan *plan, size_t start,
     return adtg_planned_look_up(plan->numbers, start, row, row_length, column);
 }
 
+/* The owner of the parent's rows in a table of rows. A child's rows have its child id. */
+#define ADTG_PARENTS SIZE_MAX
+
+/* What both numbers of a row are where it has null at the column, and where the column is a chapter. */
+#define ADTG_NULL_SPAN UINT32_C(4294967295)
+#define ADTG_CHAPTER_SPAN UINT32_C(4294967294)
+
+/* Looks up one column in the original data of every row of one owner, by the numbers of a plan. `rows` is a table as
+ * `adtg_read_section` fills it, of the same section: four numbers a row, with only as many rows as it answered. Each look-up is that
+ * of `adtg_planned_look_up` on the section from the row's start on. `spans` then has two numbers a row, in the rows' order: start and
+ * end of the field in the section. Numbers behind the last stay as they were; an error leaves them all.
+ * The first row that is refused refuses the call, and the offset is the place in the section. Last comes the room: error 16 names the
+ * output, and the offset is the rows that it needs room for.
+ * out: rows of this owner. */
+uint32_t adtg_find_column(const uint64_t numbers[131],
+                          const uint8_t *section, size_t section_length,
+                          const uint32_t *rows, size_t rows_length,
+                          size_t owner, size_t column,
+                          uint32_t *spans, size_t spans_length, uint64_t out[16]);
+
 #ifdef __cplusplus
 }
 #endif

@@ -15,6 +15,7 @@ use wire::error::ErrorKind;
 use wire::error::Input;
 use wire::integer::IntRead;
 
+pub mod batches;
 pub mod plans;
 pub mod rows;
 pub mod sections;

@@ -3,6 +3,7 @@
 // The header file include/adtg.h declares them.
 
 pub mod answer;
+pub mod batches;
 pub mod head;
 pub mod plans;
 pub mod rows;

@@ -1,0 +1,61 @@
+-- Two passes over the rows: one that counts, and one that fills the numbers.
+-- Assumes nothing.
+use Prim.Native.Nat.{ℕ}
+use mathlib.Core.Path.{ap}
+use native.Mathlib.Omega.{arith}
+use Rattle.wire.specs.declared.error.Input.the-variants as input
+use Rattle.wire.specs.declared.error.ErrorKind.the-variants as error
+use Rattle.plan.specs.Lent.{lent}
+use Rattle.batch.specs.Spans.{rowsOf, spansIn, planned}
+use Rattle.batch.proofs.Finding.{spans-told, error-told, found-large, found-refused, found-full, found-spans}
+use borrow.Author.Needs.{needs}
+use Rattle.batch.proofs.find.find_lent.Statement.{statement}
+use Rattle.batch.proofs.find.find_lent.Tie as tie
+
+returns : tie.Need-returns
+returns c =
+    let args = c .before .before .before .before .args in
+    found-large (planned (lent (args .plan .now)) (args .column)) (args .section .now) (args .rows .now) (args .owner) (args .spans .now) (c .if1 .taken)
+
+returns-2 : tie.Need-returns-2
+returns-2 c =
+    let args = c .before .before .before .before .before .before .before .before .before .before .before .args in
+    let if1 = c .before .before .before .before .before .before .before .if1 in
+    let scan = c .before .before .before .before .before .scan in
+    let n = c .before .before .n in
+    let (xs, q, z) = spans-told (spansIn (planned (lent (args .plan .now)) (args .column)) (args .section .now) (args .owner) (rowsOf (args .rows .now))) (n .given .0 .0) (scan .ensures) (n .given .1) in
+    found-full (planned (lent (args .plan .now)) (args .column)) (args .section .now) (args .rows .now) (args .owner) (args .spans .now) (if1 .left) xs q _ (ap (λ (o : ℕ). record { kind = error.Capacity; offset = o; input = input.Output }) z) (omega (arith, z, c .if2 .taken))
+
+returns-3 : tie.Need-returns-3
+returns-3 c =
+    let args = c .before .before .before .before .before .before .before .before .before .before .args in
+    let if1 = c .before .before .before .before .before .before .if1 in
+    let scan = c .before .before .before .before .scan in
+    let e = c .before .e in
+    found-refused (planned (lent (args .plan .now)) (args .column)) (args .section .now) (args .rows .now) (args .owner) (args .spans .now) (if1 .left) (e .given .0 .0) (error-told (spansIn (planned (lent (args .plan .now)) (args .column)) (args .section .now) (args .owner) (rowsOf (args .rows .now))) (e .given .0 .0) (scan .ensures) (e .given .1))
+
+returns-4 : tie.Need-returns-4
+returns-4 c =
+    let args = c .before .before .before .before .before .before .before .before .before .before .before .before .before .before .before .args in
+    let if1 = c .before .before .before .before .before .before .before .before .before .before .before .if1 in
+    let scan = c .before .before .before .before .before .before .before .before .before .scan in
+    let n = c .before .before .before .before .before .before .n in
+    let if2 = c .before .before .before .before .if2 in
+    let scan2 = c .before .before .scan2 in
+    let (xs, q, z) = spans-told (spansIn (planned (lent (args .plan .now)) (args .column)) (args .section .now) (args .owner) (rowsOf (args .rows .now))) (n .given .0 .0) (scan .ensures) (n .given .1) in
+    found-spans (planned (lent (args .plan .now)) (args .column)) (args .section .now) (args .rows .now) (args .owner) (args .spans .now) (if1 .left) xs q _ _ (omega (arith, z, if2 .left)) (scan2 .ensures)
+
+pub find-lent-spec : {M : Type 1} → statement M
+find-lent-spec =
+    tie.close
+    (tie.spec
+    returns
+    (λ c. search needs)
+    (λ c κs. search needs)
+    (λ c. search needs)
+    (λ c. search needs)
+    returns-2
+    (λ c κs. search needs)
+    returns-3
+    (λ c. search needs)
+    returns-4)

@@ -1,0 +1,32 @@
+-- What is said of a batch: one column of every row of one table.
+-- Assumes nothing.
+use Prim.Native.Nat.{ℕ}
+use mathlib.Core.Path.{_≡_}
+use mathlib.Core.List.{List, [], _∷_}
+use mathlib.Core.Option.{some}
+use lib.Dec.{eqb}
+use Rattle.wire.specs.Read.{Bytes, Read, ok, pick}
+use Rattle.row.specs.Rows.{Answer}
+use Rattle.schema.specs.Schemas.{Schema, childNumber}
+use Rattle.grammar.specs.Grammar.{Row}
+use Rattle.batch.specs.Spans.{parents, ownerOf, Span, spanIn}
+use Rattle.adtg.specs.Rows.{lookUpIn}
+
+-- a column's look-up by the walk, in a schema of a file
+abbrev pub walked : (file : Bytes) (number column : ℕ) → Bytes → Read Answer
+walked file number column part = lookUpIn file number part column
+
+-- the rows of an owner, in order
+unfoldable pub owned : ℕ → List Row → List Row
+owned owner [] = []
+owned owner (r ∷ rs) = pick (eqb (ownerOf r) owner) (r ∷ owned owner rs) (owned owner rs)
+
+-- Which schema the rows of an owner have: the parent's the top one, a child's that of its id.
+pub data Owner (S : List Schema) : (owner number : ℕ) → Type 0 where
+  parent-rows : Owner S parents 0
+  child-rows : {id k : ℕ} → childNumber S id ≡ some k → Owner S id k
+
+-- Spans are one for one those of rows: each is what the look-up answers on the part of the section from its row's start on.
+pub data SpansOf (look : Bytes → Read Answer) (s : Bytes) : List Row → List Span → Type 0 where
+  no-row : SpansOf look s [] []
+  a-row : {r : Row} {rs : List Row} {x : Span} {xs : List Span} → spanIn look s (r .original) ≡ ok x → SpansOf look s rs xs → SpansOf look s (r ∷ rs) (x ∷ xs)
