@@ -32,6 +32,8 @@ case $tally in
 esac
 
 rt staticlib adtg_c >"$log" 2>&1 || { cat "$log"; exit 1; }
+step c/run.sh
+step cargo test --quiet --release --offline --locked --manifest-path rust/Cargo.toml
 step cargo build --quiet --release --offline --locked --manifest-path compare/Cargo.toml
 step compare/target/release/compare vectors compare/vectors
 step compare/target/release/compare random --seed 1 --seconds 20

@@ -1,9 +1,8 @@
 //! An independent reading of the tablegram rules and its comparison with vectors and with
 //! the proved archive.
 
-#![deny(unsafe_code)]
+#![forbid(unsafe_code)]
 
-#[allow(unsafe_code)]
 pub mod archive;
 pub mod bench;
 pub mod generate;

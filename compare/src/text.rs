@@ -164,7 +164,7 @@ impl Text for Fault {
     fn text(&self) -> String {
         match self {
             Fault::Error(error) => error.text(),
-            Fault::Malformed { code, out } => format!("malformed reply {code} {out:?}"),
+            Fault::Malformed(malformed) => malformed.to_string(),
         }
     }
 }

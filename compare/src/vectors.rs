@@ -188,9 +188,9 @@ fn archive_look_up(schema: &[u8], number: usize, row: &[u8], column: usize) -> S
     let walk = archive::look_up(schema, number, row, column);
     let (planned, opened) = match archive::make_plan(schema, number) {
         Ok(plan) => {
-            let planned = archive::planned_look_up(&plan, row, column).reply();
+            let planned = archive::planned_look_up(&plan, row, column);
             let opened = archive::open_row(&plan, row).map_or(planned.clone(), |start| {
-                archive::open_look_up(&plan, start, row, column).reply()
+                archive::open_look_up(&plan, start, row, column)
             });
             (planned, opened)
         }

@@ -5,16 +5,17 @@
 use std::hint::black_box;
 use std::time::Instant;
 
+use adtg::{Found, RowHandle};
+
 use super::median;
-use crate::archive::{self, Found, Reply};
 use crate::generate;
 use crate::random::Random;
 use crate::reading::column::{Column, BYTES, FIXED, TEXT, WIDE_TEXT};
-use crate::reading::plan::{make_plan, OpenRow, Plan, PlanNumbers};
+use crate::reading::plan::{make_plan, OpenRow, Plan};
 use crate::reading::row::{look_up_in, Answer};
 use crate::reading::schema::{SchemaFile, MAX_COLUMNS};
 use crate::reading::{Error, Input};
-use crate::text::{agree, shown, Text};
+use crate::text::{shown, Text};
 use crate::Totals;
 
 /// The columns that are asked for.
@@ -94,10 +95,10 @@ struct Case<'a> {
     column: usize,
     columns: &'a [Column],
     plan: &'a Plan,
-    numbers: &'a PlanNumbers,
+    archive_plan: &'a adtg::Plan,
     rows: &'a [Vec<u8>],
-    /// Each row as the reading opened it, and where its data start for the archive.
-    opened: Vec<(OpenRow<'a>, usize)>,
+    /// Each row as the reading and the archive opened it.
+    opened: Vec<(OpenRow<'a>, RowHandle<'a>)>,
 }
 
 /// The five ways to look up, in the order of the table.
@@ -151,7 +152,7 @@ fn each_case(
         let schemas = SchemaFile::read(&file, Input::Only).map_err(|error| error.text())?;
         let columns = schemas.columns_at(0);
         let plan = make_plan(&file, 0).map_err(|error| error.text())?;
-        let numbers = archive::make_plan(&file, 0).map_err(|fault| fault.text())?;
+        let archive_plan = adtg::Plan::make(&file, 0).map_err(|error| error.to_string())?;
         for column in ASKED {
             if only.is_some_and(|only| only != (table.name(), column)) {
                 continue;
@@ -160,14 +161,14 @@ fn each_case(
             let mut opened = Vec::new();
             for row in &rows {
                 let of_reading = plan.open(row).map_err(|error| error.text())?;
-                let start = archive::open_row(&numbers, row).map_err(|fault| fault.text())?;
-                opened.push((of_reading, start));
+                let of_archive = archive_plan.open(row).map_err(|error| error.to_string())?;
+                opened.push((of_reading, of_archive));
             }
             let case = Case {
                 column,
                 columns,
                 plan: &plan,
-                numbers: &numbers,
+                archive_plan: &archive_plan,
                 rows: &rows,
                 opened,
             };
@@ -196,13 +197,12 @@ fn rows(file: &[u8], columns: &[Column], column: usize) -> Vec<Vec<u8>> {
 impl Case<'_> {
     #[inline(always)]
     fn archive_planned(&self, index: usize) -> Found {
-        archive::planned_look_up(self.numbers, &self.rows[index], self.column)
+        self.archive_plan.find(&self.rows[index], self.column)
     }
 
     #[inline(always)]
     fn archive_opened(&self, index: usize) -> Found {
-        let start = self.opened[index].1;
-        archive::open_look_up(self.numbers, start, &self.rows[index], self.column)
+        self.opened[index].1.find(self.column)
     }
 
     #[inline(always)]
@@ -242,13 +242,13 @@ fn compare(case: &Case) -> Totals {
     for (index, row) in case.rows.iter().enumerate() {
         let walk = case.reading_walked(index);
         let of_reading = [case.reading_planned(index), case.reading_opened(index)];
-        let of_archive: [Reply<Answer>; 2] = [
-            case.archive_planned(index).reply(),
-            case.archive_opened(index).reply(),
-        ];
+        let of_archive = [case.archive_planned(index), case.archive_opened(index)]
+            .map(|found| found.answer().map(Answer::from).map_err(Error::from));
         totals.cases += 1;
-        let do_agree = of_reading.iter().all(|answer| *answer == walk)
-            && of_archive.iter().all(|reply| agree(&walk, reply));
+        let do_agree = of_reading
+            .iter()
+            .chain(&of_archive)
+            .all(|answer| *answer == walk);
         if !do_agree {
             totals.differ += 1;
             println!("column {} of {}: {}", case.column, shown(row), walk.text());
@@ -258,7 +258,7 @@ fn compare(case: &Case) -> Totals {
             );
             println!(
                 "  archive: {}",
-                of_archive.map(|reply| reply.text()).join(", ")
+                of_archive.map(|answer| answer.text()).join(", ")
             );
         }
     }

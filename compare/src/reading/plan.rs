@@ -34,10 +34,9 @@ pub const PLAN_NUMBERS: usize = 2 * MAX_COLUMNS + 3;
 
 /// All that a plan holds, as the numbers of the C interface: one for each column, one for each
 /// number of the lists, then three.
-#[repr(C)]
 #[derive(Clone, Copy, Debug, PartialEq, Eq)]
 pub struct PlanNumbers {
-    pub numbers: [usize; PLAN_NUMBERS],
+    pub numbers: [u64; PLAN_NUMBERS],
 }
 
 /// The parts that share these numbers. Each list has a number for each column, or one for each
@@ -79,9 +78,9 @@ impl PlanNumbers {
         let list = |at: usize, shift: u32| lists[at] >> shift;
         let each: [usize; MAX_COLUMNS] = std::array::from_fn(|at| at);
         PlanParts {
-            count: rest[0],
-            map: rest[1],
-            chapters: rest[2],
+            count: rest[0] as usize,
+            map: rest[1] as usize,
+            chapters: rest[2] as usize,
             codes: each.map(|at| column(at, 0) as u8),
             flags: each.map(|at| column(at, 8) as u8),
             maxima: each.map(|at| column(at, 16) as u16),
@@ -90,7 +89,7 @@ impl PlanNumbers {
             widths: each.map(|at| column(at, 56) as u8),
             before: each.map(|at| list(at, 0) as u8),
             stops: each.map(|at| list(at, 8) as u8),
-            marked: each.map(|at| list(at, 16) as u64),
+            marked: each.map(|at| list(at, 16)),
         }
     }
 }
@@ -100,17 +99,17 @@ impl PlanParts {
     pub fn numbers(&self) -> PlanNumbers {
         let mut numbers = [0; PLAN_NUMBERS];
         for at in 0..MAX_COLUMNS {
-            numbers[at] = usize::from(self.codes[at])
-                | usize::from(self.flags[at]) << 8
-                | usize::from(self.maxima[at]) << 16
-                | usize::from(self.gaps[at]) << 32
-                | usize::from(self.bits[at]) << 48
-                | usize::from(self.widths[at]) << 56;
-            numbers[MAX_COLUMNS + at] = usize::from(self.before[at])
-                | usize::from(self.stops[at]) << 8
-                | (self.marked[at] as usize) << 16;
+            numbers[at] = u64::from(self.codes[at])
+                | u64::from(self.flags[at]) << 8
+                | u64::from(self.maxima[at]) << 16
+                | u64::from(self.gaps[at]) << 32
+                | u64::from(self.bits[at]) << 48
+                | u64::from(self.widths[at]) << 56;
+            numbers[MAX_COLUMNS + at] =
+                u64::from(self.before[at]) | u64::from(self.stops[at]) << 8 | self.marked[at] << 16;
         }
-        numbers[2 * MAX_COLUMNS..].copy_from_slice(&[self.count, self.map, self.chapters]);
+        let counts = [self.count, self.map, self.chapters].map(|count| count as u64);
+        numbers[2 * MAX_COLUMNS..].copy_from_slice(&counts);
         PlanNumbers { numbers }
     }
 }

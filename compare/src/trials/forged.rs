@@ -109,11 +109,11 @@ fn look_ups(plan: &PlanNumbers, row: &[u8], any_start: usize, columns: &[usize],
     for column in columns {
         let inputs = || format!("{} {column}", inputs());
         let fixed = fixed_place(plan, *column, run);
-        let reply = archive::planned_look_up(plan, row, *column).reply();
+        let reply = archive::planned_look_up(plan, row, *column);
         let (answer, complaints) = found(row, fixed, &reply);
         run.judge(&PLANNED, &answer, &complaints, inputs);
         for start in opened.iter().chain([&any_start]) {
-            let reply = archive::open_look_up(plan, *start, row, *column).reply();
+            let reply = archive::open_look_up(plan, *start, row, *column);
             let (answer, complaints) = found(row, fixed, &reply);
             run.judge(&OPENED, &answer, &complaints, || {
                 format!("{}, start {start}", inputs())
@@ -199,7 +199,7 @@ fn allowed<T: Text>(row: &[u8], reply: &Reply<T>) -> (Result<(), Error>, Vec<Str
             };
             (Err(*error), may_be && error.input == Input::Row)
         }
-        Err(Fault::Malformed { .. }) => (Ok(()), false),
+        Err(Fault::Malformed(_)) => (Ok(()), false),
     };
     let complaints = if is_allowed {
         Vec::new()
@@ -267,7 +267,7 @@ fn mixed(random: &mut Random, mut plan: PlanParts) -> PlanParts {
 
 /// A plan of any numbers.
 fn any_plan(random: &mut Random) -> PlanParts {
-    let numbers = [0; PLAN_NUMBERS].map(|_: usize| random.bits() as usize);
+    let numbers = [0; PLAN_NUMBERS].map(|_: u64| random.bits());
     PlanNumbers { numbers }.parts()
 }
 
@@ -365,7 +365,7 @@ mod tests {
         for slot in &mut slots {
             slot.set(u64::MAX);
         }
-        assert_eq!(plan.numbers().numbers, [usize::MAX; PLAN_NUMBERS]);
+        assert_eq!(plan.numbers().numbers, [u64::MAX; PLAN_NUMBERS]);
     }
 
     #[test]

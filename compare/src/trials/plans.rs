@@ -211,14 +211,14 @@ fn look_ups(file: &[u8], number: usize, row: &[u8], columns: &[usize], run: &mut
         let with_column = || format!("{} {column}", inputs());
         fixed_place(&plan, &numbers, *column, &walk, run);
         let found = archive::planned_look_up(&numbers, row, *column);
-        let mut of_planned = complaints(&walk, &found.reply());
+        let mut of_planned = complaints(&walk, &found);
         if plan.look_up(row, *column) != walk {
             of_planned.push("the reading's plan says something else".to_string());
         }
         run.judge(&PLANNED, &walk, &of_planned, with_column);
         if let (Ok(_), Ok(start)) = (&opened, &start) {
             let found = archive::open_look_up(&numbers, *start, row, *column);
-            let of_opened = complaints(&walk, &found.reply());
+            let of_opened = complaints(&walk, &found);
             run.judge(&OPENED, &walk, &of_opened, with_column);
         }
     }

@@ -51,7 +51,7 @@ use Rattle.demands.specs.Examples.{T, sectionT}
 use Rattle.demands.specs.Sections.{Given, listing}
 use Rattle.demands.specs.Batches.{walked, owned, Owner, parent-rows, child-rows, SpansOf, no-row, a-row, Lies, lies, is-null, is-chapter, BatchError, in-section, no-column, no-room}
 use Rattle.demands.proofs.Plans.{plan-route-is-walk}
-use Rattle.demands.proofs.Sections.{accepted-iff-split, split-listed}
+use Rattle.demands.proofs.Sections.{accepted-iff-split, split-listed, length-numbers}
 
 -- Through the plan that a schema makes, a batch is the batch by the walk in that schema, whole: for any section, any numbers as its rows,
 -- any owner, column and room.
@@ -205,11 +205,6 @@ module _ (p : Plan) (s : Bytes) (column owner code offset : ℕ) (i : Input) whe
           rw (← y) (in-section l)
 
 -- The rows that a table lists are its rows.
-
-length-numbers : (rs : List Row) → length (tableNumbers rs) ≡ 4 * length rs
-unfolding tableNumbers
-length-numbers [] = refl
-length-numbers (r ∷ rs) = omega (arith, length-numbers rs)
 
 rows-shift : (a b c d : ℕ) (t : List ℕ) (n i : ℕ) → rowsFrom (a ∷ b ∷ c ∷ d ∷ t) n (suc i) ≡ rowsFrom t n i
 unfolding rowsFrom

@@ -226,7 +226,7 @@ error-leaves-table file s table code offset i e = rw e refl
 
 -- Demand 2: acceptance.
 
-length-numbers : (rs : List Row) → length (tableNumbers rs) ≡ 4 * length rs
+pub length-numbers : (rs : List Row) → length (tableNumbers rs) ≡ 4 * length rs
 unfolding tableNumbers
 length-numbers [] = refl
 length-numbers (r ∷ rs) = omega (arith, length-numbers rs)

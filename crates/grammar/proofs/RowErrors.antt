@@ -89,15 +89,15 @@ module _ (s : Bytes) where
   of-allowed Chapter maximum n at h = no-error
   of-allowed Unknown maximum n at h = no-error
 
-  of-bytes : (at w n : ℕ) → OfError (RowErrorAt (length s)) (bytesAt s at w n)
+  pub of-bytes : (at w n : ℕ) → OfError (RowErrorAt (length s)) (bytesAt s at w n)
   unfolding bytesAt
   of-bytes at w n = of-bind _ _ (of-whole at w) (λ _ _. no-error)
 
-  of-int : (at n : ℕ) → OfError (RowErrorAt (length s)) (readInt s at n)
+  pub of-int : (at n : ℕ) → OfError (RowErrorAt (length s)) (readInt s at n)
   unfolding readInt
   of-int at n = of-bind _ _ (of-whole at n) (λ _ _. no-error)
 
-  of-variable : (c : Column) (at : ℕ) → OfError (RowErrorAt (length s)) (variableAt c s at)
+  pub of-variable : (c : Column) (at : ℕ) → OfError (RowErrorAt (length s)) (variableAt c s at)
   unfolding variableAt lengthError
   of-variable c at =
       of-bind _ _ (of-whole at (prefixSize c))
@@ -106,7 +106,7 @@ module _ (s : Bytes) where
       let h : at < length s = omega (arith, p .ends, p .inside, prefix-positive c) in
       of-bind _ _ (of-int at (prefixSize c)) (λ n _. of-bind _ _ (of-allowed (kind c) (c .maximum) n at h) (λ _ _. of-bytes b n 1)))
 
-  of-field : (c : Column) (at : ℕ) → OfError (RowErrorAt (length s)) (fieldAt c s at)
+  pub of-field : (c : Column) (at : ℕ) → OfError (RowErrorAt (length s)) (fieldAt c s at)
   unfolding fieldAt
   of-field c at = go (isVariable c)
     where
@@ -122,7 +122,7 @@ module _ (s : Bytes) where
       go true = of-bind _ _ (of-field (m .column) (w .at)) (λ _ _. no-error)
       go false = no-error
 
-  of-walk : (has : Mark → Bool) (k : ℕ) (ms : List Mark) (w : Place) → OfError (RowErrorAt (length s)) (walk has s k ms w)
+  pub of-walk : (has : Mark → Bool) (k : ℕ) (ms : List Mark) (w : Place) → OfError (RowErrorAt (length s)) (walk has s k ms w)
   unfolding walk
   of-walk has zero ms w = no-error
   of-walk has (suc k) [] w = no-error
@@ -152,14 +152,18 @@ module _ (s : Bytes) where
         of-bind _ _ (of-check (not (broken (mark c b))) code _ (λ _. f _ (omega (arith, map-byte n b (omega arith)))))
         (λ _ _. of-rule broken code f (suc b) cs (omega arith))
 
-  pub of-row : (columns : List Column) (at : ℕ) → OfError (RowErrorAt (length s)) (rowEnd columns s at)
-  unfolding rowEnd opened walked presenceBytes
-  of-row columns at =
-      of-bind _ _
-      (of-bind _ _ (of-whole at (presenceBytes columns))
+  pub of-opened : (columns : List Column) (at : ℕ) → OfError (RowErrorAt (length s)) (opened columns s at)
+  unfolding opened presenceBytes
+  of-opened columns at =
+      of-bind _ _ (of-whole at (presenceBytes columns))
       (λ b w.
       let (p, l) = whole-ok s at (presenceBytes columns) b w in
-      of-bind _ _ (of-chapters (nullables columns) at (omega (arith, p .ends, p .inside)) (drop at s) 0 columns (omega arith)) (λ _ _. no-error)))
+      of-bind _ _ (of-chapters (nullables columns) at (omega (arith, p .ends, p .inside)) (drop at s) 0 columns (omega arith)) (λ _ _. no-error))
+
+  pub of-row : (columns : List Column) (at : ℕ) → OfError (RowErrorAt (length s)) (rowEnd columns s at)
+  unfolding rowEnd walked
+  of-row columns at =
+      of-bind _ _ (of-opened columns at)
       (λ _ _. of-bind _ _ (of-walk (present (drop at s)) (length columns) (marks 0 columns) _) (λ _ _. no-error))
 
   pub of-update : (columns : List Column) (at : ℕ) → OfError (RowErrorAt (length s)) (updateEnd columns s at)
