@@ -1,45 +1,103 @@
 -- Through any plan, an error stands in the row or at its end.
 -- Assumes nothing.
-use Prim.Native.Nat.{ℕ, _+_, _/_, _≤_}
+use Prim.Native.Nat.{ℕ, _+_, _*_, _/_, _≤_, _<_}
 use mathlib.Core.List.{List, [], _∷_}
-use mathlib.Core.Bool.{Bool, true, false, not}
-use mathlib.Core.Path.{_≡_, refl, sym, _∙_}
-use native.Mathlib.Omega.{arith, by-contra}
+use mathlib.Core.Bool.{Bool, true, false, not, true≢false}
+use mathlib.Core.Path.{_≡_, refl, sym, ap, _∙_}
+use native.Mathlib.Omega.{arith}
 use lib.ListN.{length}
-use lib.Dec.{leb, ltb, eqb}
+use lib.Dec.{leb, ltb}
+use borrow.Author.Tests.{leb-true, leb-false}
 use Rattle.wire.specs.declared.error.Input.{Input}
 use Rattle.wire.specs.declared.error.Input.the-variants as input
-use Rattle.wire.specs.Read.{Bytes, Read, ok, bad, _>>=_, pick, check, about, limit, sizedBy, sized, whole}
-use Rattle.wire.specs.Integers.{readInt}
+use Rattle.wire.specs.Read.{Bytes, Read, ok, bad, _>>=_, pick, check, about, limit, sizedBy, sized}
 use Rattle.wire.specs.Bits.{bitSet}
 use Rattle.wire.proofs.Laws.{bit-past}
-use Rattle.wire.proofs.Pieces.{whole-ok}
 use Rattle.column.specs.declared.column.Column.{Column}
-use Rattle.column.specs.Columns.{isVariable, isChapter, prefixSize, lengthError}
-use Rattle.column.specs.Fields.{allowed, bytesAt, variableAt}
-use Rattle.row.specs.Presence.{mark, present}
-use Rattle.row.specs.Rows.{Place, place}
+use Rattle.column.specs.Columns.{isVariable, isChapter}
+use Rattle.column.specs.Fields.{bytesAt, variableAt}
+use Rattle.row.specs.Presence.{one, mark, present}
+use Rattle.row.specs.Rows.{Place}
+use Rattle.row.specs.Rows as rows
+use Rattle.grammar.proofs.RowErrors.{OfError, an-error, of-bind, of-check, of-other, RowErrorAt}
+use Rattle.grammar.proofs.RowErrors as row
 use Rattle.plan.specs.declared.plan.Plan.{Plan}
 use Rattle.plan.specs.Packed.{unpacked, bitIn, widthIn}
 use Rattle.plan.specs.Plans.{isStop, plannedWord, plannedColumn, plannedMark, plannedGap, plannedCount, plannedMap, plannedMarked, stopsTo, fieldIn, passedVariable, passed, visit, visits, jumped, landed, unset, plannedKnown, plannedOpen, plannedAnswer, plannedLookUp, plannedRow}
 
--- if the answer is an error, its offset is at most n
-data Inside {A : Type 0} (n : ℕ) : Read A → Type 0 where
-  answered : {a : A} → Inside n (ok a)
-  refused : {code offset : ℕ} {name : Input} → offset ≤ n → Inside n (bad code offset name)
+-- Which error can stand where.
 
-inside-bind : {A B : Type 0} {n : ℕ} {r : Read A} {g : A → Read B} → Inside n r → ((a : A) → r ≡ ok a → Inside n (g a)) → Inside n (r >>= g)
-inside-bind answered k = k _ refl
-inside-bind (refused h) k = refused h
+bit-inside : (s : Bytes) (b : ℕ) → not (bitSet s b) ≡ false → b / 8 < length s
+bit-inside s b e = go (leb (length s) (b / 8)) refl
+  where
+    go : (t : Bool) → leb (length s) (b / 8) ≡ t → b / 8 < length s
+    go true q = absurd (true≢false (ap not (sym (bit-past s b (leb-true _ _ q))) ∙ e))
+    go false q = leb-false _ _ q
 
-inside-check : {n : ℕ} (t : Bool) (c p : ℕ) → (t ≡ false → p ≤ n) → Inside n (check t c p)
-unfolding check
-inside-check true c p h = answered
-inside-check false c p h = refused (h refl)
+module _ (p : Plan) (s : Bytes) where
+  of-unset : (bits : List ℕ) → OfError (RowErrorAt (length s)) (unset s bits)
+  unfolding unset
+  of-unset [] = row.no-error
+  of-unset (b ∷ bs) = of-bind _ _ (of-check (not (bitSet s b)) 12 (b / 8) (λ e. row.chapter-bit (bit-inside s b e))) (λ _ _. of-unset bs)
 
-inside-pick : {A : Type 0} {n : ℕ} (t : Bool) {a b : Read A} → Inside n a → Inside n b → Inside n (pick t a b)
-inside-pick true x y = x
-inside-pick false x y = y
+  pub of-planned-open : OfError (RowErrorAt (length s)) (plannedOpen p s)
+  unfolding plannedOpen
+  of-planned-open = of-bind _ _ (row.of-whole s 0 (plannedMap p)) (λ _ _. of-bind _ _ (of-unset (plannedMarked p)) (λ _ _. row.no-error))
+
+  of-passed-variable : (c : Column) (bit : ℕ) (w : Place) → OfError (RowErrorAt (length s)) (passedVariable c bit s w)
+  unfolding passedVariable
+  of-passed-variable c bit w = go (present s (mark c bit))
+    where
+      go : (t : Bool) → OfError (RowErrorAt (length s)) (pick t (variableAt c s (w .at) >>= (λ f. ok (rows.past w f))) (ok w))
+      go true = of-bind _ _ (row.of-variable s c (w .at)) (λ _ _. row.no-error)
+      go false = row.no-error
+
+  of-passed : (n : ℕ) (w : Place) → OfError (RowErrorAt (length s)) (passed n s w)
+  unfolding passed
+  of-passed n w = go (isVariable (unpacked n))
+    where
+      go :
+          (t : Bool) →
+          OfError (RowErrorAt (length s))
+          (pick t (passedVariable (unpacked n) (bitIn n) s w) (ok (rows.place (w .at + widthIn n * one (bitSet s (bitIn n))) (w .prefixes))))
+      go true = of-passed-variable (unpacked n) (bitIn n) w
+      go false = row.no-error
+
+  of-visit : (k i : ℕ) (w : Place) → OfError (RowErrorAt (length s)) (visit p s k i w)
+  unfolding visit
+  of-visit k i w = go (ltb i k) (isStop (plannedColumn p i))
+    where
+      go : (t u : Bool) → OfError (RowErrorAt (length s)) (pick t (pick u (passed (plannedWord p i) s (rows.place (w .at + plannedGap p i) (w .prefixes))) (ok w)) (ok w))
+      go true true = of-passed (plannedWord p i) _
+      go true false = row.no-error
+      go false u = row.no-error
+
+  of-visits : (k : ℕ) (is : List ℕ) (w : Place) → OfError (RowErrorAt (length s)) (visits p s k is w)
+  unfolding visits
+  of-visits k [] w = row.no-error
+  of-visits k (i ∷ is) w = of-bind _ _ (of-visit k i w) (λ v _. of-visits k is v)
+
+  of-field-in : (n at : ℕ) → OfError (RowErrorAt (length s)) (fieldIn n s at)
+  unfolding fieldIn
+  of-field-in n at = go (isVariable (unpacked n))
+    where
+      go : (t : Bool) → OfError (RowErrorAt (length s)) (pick t (variableAt (unpacked n) s at) (bytesAt s at (widthIn n) 0))
+      go true = row.of-variable s (unpacked n) at
+      go false = row.of-bytes s at (widthIn n) 0
+
+  pub of-planned-answer : (k : ℕ) → OfError (RowErrorAt (length s)) (plannedAnswer p s k)
+  unfolding plannedAnswer jumped landed
+  of-planned-answer k = go (isChapter (plannedColumn p k)) (present s (plannedMark p k))
+    where
+      go :
+          (t u : Bool) →
+          OfError (RowErrorAt (length s))
+          (pick t (ok rows.chapter) (pick u (jumped p s k >>= λ w. landed (plannedWord p k) s w >>= (λ f. ok (rows.field f))) (ok rows.null)))
+      go true u = row.no-error
+      go false true =
+          of-bind _ _ (of-bind _ _ (of-visits k (stopsTo p k) _) (λ _ _. row.no-error))
+          (λ w _. of-bind _ _ (of-bind _ _ (of-field-in (plannedWord p k) (w .at)) (λ _ _. row.no-error)) (λ _ _. row.no-error))
+      go false false = row.no-error
 
 -- The errors of a look-up: about the row, at most n into it; about the column number.
 pub data RowErrors {A : Type 0} (n : ℕ) : Read A → Type 0 where
@@ -52,10 +110,10 @@ errors-bind no-error k = k _
 errors-bind (in-row h) k = in-row h
 errors-bind of-column k = of-column
 
-about-row : {A : Type 0} {n : ℕ} {r : Read A} → Inside n r → RowErrors n (about input.Row r)
+about-row : {A : Type 0} {n : ℕ} {r : Read A} → OfError (λ (c o : ℕ). o ≤ n) r → RowErrors n (about input.Row r)
 unfolding about
-about-row answered = no-error
-about-row (refused h) = in-row h
+about-row row.no-error = no-error
+about-row (an-error h) = in-row h
 
 about-column : {n : ℕ} (t : Bool) → RowErrors n (about input.Column (check t 18 0))
 unfolding about check
@@ -67,71 +125,19 @@ error-inside no-error e = let z : _≡_ {A = ℕ} 0 1 = cc in absurd (omega arit
 error-inside {o = o} (in-row {offset = p} h) e = let v : p ≡ o = cc in omega arith
 error-inside {o = o} of-column e = let v : 0 ≡ o = cc in omega arith
 
-module _ (row : Bytes) where
-  inside-whole : (at n : ℕ) → Inside (length row) (whole row at n)
-  unfolding whole
-  inside-whole at n = inside-bind (inside-check (leb (at + n) (length row)) 1 (length row) (λ _. omega arith)) (λ _ _. answered)
+row-error-inside : {n c o : ℕ} → RowErrorAt n c o → o ≤ n
+row-error-inside row.short = omega arith
+row-error-inside (row.chapter-bit h) = omega arith
+row-error-inside (row.force-rule h) = omega arith
+row-error-inside (row.length-rule h) = omega arith
 
-  inside-bytes : (at w n : ℕ) → Inside (length row) (bytesAt row at w n)
-  unfolding bytesAt
-  inside-bytes at w n = inside-bind (inside-whole at w) (λ _ _. answered)
-
-  inside-variable : (c : Column) (at : ℕ) → Inside (length row) (variableAt c row at)
-  unfolding variableAt readInt allowed
-  inside-variable c at =
-      inside-bind (inside-whole at (prefixSize c))
-      (λ s e.
-      let d = whole-ok row at (prefixSize c) s e .0 in
-      let l : at ≤ length row = omega (arith, d .ends, d .inside) in
-      inside-bind (inside-bind (inside-whole at (prefixSize c)) (λ _ _. answered))
-      (λ n _. inside-bind (inside-pick (eqb (lengthError c n) 0) answered (refused l)) (λ _ _. inside-bytes s n 1)))
-
-  inside-field : (n at : ℕ) → Inside (length row) (fieldIn n row at)
-  unfolding fieldIn
-  inside-field n at = inside-pick (isVariable (unpacked n)) (inside-variable (unpacked n) at) (inside-bytes at (widthIn n) 0)
-
-  inside-passed : (n : ℕ) (w : Place) → Inside (length row) (passed n row w)
-  unfolding passed passedVariable
-  inside-passed n w =
-      inside-pick (isVariable (unpacked n))
-      (inside-pick (present row (mark (unpacked n) (bitIn n))) (inside-bind (inside-variable (unpacked n) (w .at)) (λ _ _. answered)) answered) answered
-
-  inside-unset : (bs : List ℕ) → Inside (length row) (unset row bs)
-  unfolding unset
-  inside-unset [] = answered
-  inside-unset (b ∷ bs) = inside-bind (inside-check (not (bitSet row b)) 12 (b / 8) (λ e. at-set (bitSet row b) refl e)) (λ _ _. inside-unset bs)
-    where
-      at-set : (t : Bool) → bitSet row b ≡ t → not t ≡ false → b / 8 ≤ length row
-      at-set true s e = by-contra _ _ (λ l. let z : true ≡ false = sym s ∙ bit-past row b (omega arith) in let y : _≡_ {A = ℕ} 0 1 = cc in omega arith)
-      at-set false s e = let y : _≡_ {A = ℕ} 0 1 = cc in absurd (omega arith)
-
-  module _ (p : Plan) (k : ℕ) where
-    inside-visit : (i : ℕ) (w : Place) → Inside (length row) (visit p row k i w)
-    unfolding visit
-    inside-visit i w =
-        inside-pick (ltb i k)
-        (inside-pick (isStop (plannedColumn p i)) (inside-passed (plannedWord p i) (place (w .at + plannedGap p i) (w .prefixes))) answered) answered
-
-    inside-visits : (l : List ℕ) (w : Place) → Inside (length row) (visits p row k l w)
-    unfolding visits
-    inside-visits [] w = answered
-    inside-visits (i ∷ l) w = inside-bind (inside-visit i w) (λ v _. inside-visits l v)
-
-    inside-answer : Inside (length row) (plannedAnswer p row k)
-    unfolding plannedAnswer jumped landed
-    inside-answer =
-        inside-pick (isChapter (plannedColumn p k)) answered
-        (inside-pick (present row (plannedMark p k))
-        (inside-bind (inside-bind (inside-visits (stopsTo p k) (place 0 0)) (λ _ _. answered))
-        (λ w _. inside-bind (inside-bind (inside-field (plannedWord p k) (w .at)) (λ _ _. answered)) (λ _ _. answered))) answered)
-
-    -- every error of a look-up
-    pub row-errors : RowErrors (length row) (plannedRow p row k)
-    unfolding plannedRow plannedLookUp plannedKnown plannedOpen sized sizedBy
-    row-errors =
-        errors-bind (about-row (inside-check (leb (length row) limit) 19 0 (λ _. omega arith)))
-        (λ _.
-        errors-bind (about-column (ltb k (plannedCount p)))
-        (λ _.
-        errors-bind (about-row (inside-bind (inside-whole 0 (plannedMap p)) (λ _ _. inside-bind (inside-unset (plannedMarked p)) (λ _ _. answered))))
-        (λ _. about-row inside-answer)))
+-- every error of a look-up
+pub row-errors : (row : Bytes) (p : Plan) (k : ℕ) → RowErrors (length row) (plannedRow p row k)
+unfolding plannedRow plannedLookUp plannedKnown sized sizedBy
+row-errors s p k =
+    errors-bind (about-row (of-check (leb (length s) limit) 19 0 (λ _. omega arith)))
+    (λ _.
+    errors-bind (about-column (ltb k (plannedCount p)))
+    (λ _.
+    errors-bind (about-row (of-other (λ _ _ h. row-error-inside h) (of-planned-open p s)))
+    (λ _. about-row (of-other (λ _ _ h. row-error-inside h) (of-planned-answer p s k)))))

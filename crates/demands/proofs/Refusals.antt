@@ -1,14 +1,14 @@
 -- Demand 1: each refusal carries a number of the paper's table and its place, and after it what was lent is as it was.
 -- Assumes nothing.
-use Prim.Native.Nat.{ℕ, _+_, _*_, _/_, _≤_, _<_}
-use mathlib.Core.Path.{_≡_, refl, sym, ap, _∙_}
+use Prim.Native.Nat.{ℕ, _+_, _≤_, _<_}
+use mathlib.Core.Path.{_≡_, refl, sym, _∙_}
 use mathlib.Core.List.{List, [], _∷_, map}
-use mathlib.Core.Bool.{Bool, true, false, not, true≢false}
+use mathlib.Core.Bool.{Bool, true, false, not}
 use mathlib.Core.Logic.{_⊎_, inl, inr}
 use native.Mathlib.Omega.{arith}
 use lib.ListN.{length, getD, drop}
 use lib.Dec.{leb, ltb, eqb}
-use borrow.Author.Tests.{leb-true, leb-false}
+use borrow.Author.Tests.{leb-false}
 use Rattle.wire.specs.declared.error.Input.{Input}
 use Rattle.wire.specs.declared.error.Input.the-variants as input
 use Rattle.wire.specs.Read.{Bytes, Read, ok, bad, _>>=_, pick, about, limit, sizedBy, sized, whole, byteAt, constants}
@@ -16,16 +16,14 @@ use Rattle.wire.specs.Bits.{bitSet}
 use Rattle.wire.specs.Integers.{readInt}
 use Rattle.wire.specs.declared.output.Written.{Written}
 use Rattle.wire.specs.Output.{outputAfter, sizeOf, toldWritten, Wrote}
-use Rattle.wire.proofs.Laws.{bit-past}
 use Rattle.wire.proofs.Pieces.{bad-ok, bind-ok, whole-ok}
 use Rattle.header.specs.declared.options.Spans.{Spans}
 use Rattle.header.specs.Header.{signature, headerFields, headerOf}
 use Rattle.header.specs.Options.{token, guid, asyncAllowed, spanAt, spansOf, asyncRest, optionsRest, optionsSized, optionsOf}
 use Rattle.column.specs.declared.column.Column.{Column}
-use Rattle.column.specs.Columns.{isChapter, isVariable}
-use Rattle.column.specs.Fields.{bytesAt, variableAt}
-use Rattle.row.specs.Presence.{noColumn, one, mark, marks, markOf, present}
-use Rattle.row.specs.Rows.{Place, Answer, arrive, walked, fieldOf, columnOf, known, lookUp, fieldCount}
+use Rattle.column.specs.Columns.{isChapter}
+use Rattle.row.specs.Presence.{noColumn, one, marks, markOf, present}
+use Rattle.row.specs.Rows.{Answer, arrive, walked, fieldOf, columnOf, known, lookUp, fieldCount}
 use Rattle.row.specs.Updates.{UpdateAnswer, numbered, updateBytes, carriedIn, updateWalked, updateField, updateColumn, lookUpdate, fromRow, currentBy, current}
 use Rattle.row.specs.Rows as rows
 use Rattle.row.specs.Updates as update
@@ -46,9 +44,9 @@ use Rattle.section.specs.Table.{rowsRead, tableAfter, toldRows}
 use Rattle.section.specs.Table as table
 use Rattle.grammar.specs.Grammar.{Row}
 use Rattle.plan.specs.declared.plan.Plan.{Plan}
-use Rattle.plan.specs.Packed.{unpacked, widthIn, bitIn}
-use Rattle.plan.specs.Plans.{planOf, isStop, plannedColumn, plannedWord, plannedGap, plannedMap, plannedMarked, plannedMark, plannedCount, stopsTo, fieldIn, passedVariable, passed, visit, visits, jumped, landed, unset, plannedKnown, plannedOpen, plannedAnswer, plannedLookUp, plannedRow}
+use Rattle.plan.specs.Plans.{planOf, plannedCount, plannedKnown, plannedLookUp, plannedRow}
 use Rattle.plan.specs.Handles.{countsOpened, openedLookUp, handled}
+use Rattle.batch.proofs.Places.{of-planned-open, of-planned-answer}
 use Rattle.adtg.specs.InSchema.{inSchema}
 use Rattle.adtg.specs.Rows.{lookUpIn, fieldCountIn, rowEndIn}
 use Rattle.adtg.specs.Updates.{lookUpdateIn, updateEndIn, currentIn}
@@ -253,80 +251,6 @@ module _ (cs : List Column) (s : Bytes) where
       go false true true = no-error
       go false true false = of-bind _ _ (of-update-walked k) (λ _ _. no-error)
       go false false v = no-error
-
--- Errors of a look-up through any plan, made or not.
-
-bit-inside : (s : Bytes) (b : ℕ) → not (bitSet s b) ≡ false → b / 8 < length s
-bit-inside s b e = go (leb (length s) (b / 8)) refl
-  where
-    go : (t : Bool) → leb (length s) (b / 8) ≡ t → b / 8 < length s
-    go true q = absurd (true≢false (ap not (sym (bit-past s b (leb-true _ _ q))) ∙ e))
-    go false q = leb-false _ _ q
-
-module _ (p : Plan) (s : Bytes) where
-  of-unset : (bits : List ℕ) → OfError (RowErrorAt (length s)) (unset s bits)
-  unfolding unset
-  of-unset [] = no-error
-  of-unset (b ∷ bs) = of-bind _ _ (of-check (not (bitSet s b)) 12 (b / 8) (λ e. row.chapter-bit (bit-inside s b e))) (λ _ _. of-unset bs)
-
-  of-planned-open : OfError (RowErrorAt (length s)) (plannedOpen p s)
-  unfolding plannedOpen
-  of-planned-open = of-bind _ _ (row.of-whole s 0 (plannedMap p)) (λ _ _. of-bind _ _ (of-unset (plannedMarked p)) (λ _ _. no-error))
-
-  of-passed-variable : (c : Column) (bit : ℕ) (w : Place) → OfError (RowErrorAt (length s)) (passedVariable c bit s w)
-  unfolding passedVariable
-  of-passed-variable c bit w = go (present s (mark c bit))
-    where
-      go : (t : Bool) → OfError (RowErrorAt (length s)) (pick t (variableAt c s (w .at) >>= (λ f. ok (rows.past w f))) (ok w))
-      go true = of-bind _ _ (row.of-variable s c (w .at)) (λ _ _. no-error)
-      go false = no-error
-
-  of-passed : (n : ℕ) (w : Place) → OfError (RowErrorAt (length s)) (passed n s w)
-  unfolding passed
-  of-passed n w = go (isVariable (unpacked n))
-    where
-      go :
-          (t : Bool) →
-          OfError (RowErrorAt (length s))
-          (pick t (passedVariable (unpacked n) (bitIn n) s w) (ok (rows.place (w .at + widthIn n * one (bitSet s (bitIn n))) (w .prefixes))))
-      go true = of-passed-variable (unpacked n) (bitIn n) w
-      go false = no-error
-
-  of-visit : (k i : ℕ) (w : Place) → OfError (RowErrorAt (length s)) (visit p s k i w)
-  unfolding visit
-  of-visit k i w = go (ltb i k) (isStop (plannedColumn p i))
-    where
-      go : (t u : Bool) → OfError (RowErrorAt (length s)) (pick t (pick u (passed (plannedWord p i) s (rows.place (w .at + plannedGap p i) (w .prefixes))) (ok w)) (ok w))
-      go true true = of-passed (plannedWord p i) _
-      go true false = no-error
-      go false u = no-error
-
-  of-visits : (k : ℕ) (is : List ℕ) (w : Place) → OfError (RowErrorAt (length s)) (visits p s k is w)
-  unfolding visits
-  of-visits k [] w = no-error
-  of-visits k (i ∷ is) w = of-bind _ _ (of-visit k i w) (λ v _. of-visits k is v)
-
-  of-field-in : (n at : ℕ) → OfError (RowErrorAt (length s)) (fieldIn n s at)
-  unfolding fieldIn
-  of-field-in n at = go (isVariable (unpacked n))
-    where
-      go : (t : Bool) → OfError (RowErrorAt (length s)) (pick t (variableAt (unpacked n) s at) (bytesAt s at (widthIn n) 0))
-      go true = row.of-variable s (unpacked n) at
-      go false = row.of-bytes s at (widthIn n) 0
-
-  of-planned-answer : (k : ℕ) → OfError (RowErrorAt (length s)) (plannedAnswer p s k)
-  unfolding plannedAnswer jumped landed
-  of-planned-answer k = go (isChapter (plannedColumn p k)) (present s (plannedMark p k))
-    where
-      go :
-          (t u : Bool) →
-          OfError (RowErrorAt (length s))
-          (pick t (ok rows.chapter) (pick u (jumped p s k >>= λ w. landed (plannedWord p k) s w >>= (λ f. ok (rows.field f))) (ok rows.null)))
-      go true u = no-error
-      go false true =
-          of-bind _ _ (of-bind _ _ (of-visits k (stopsTo p k) _) (λ _ _. no-error))
-          (λ w _. of-bind _ _ (of-bind _ _ (of-field-in (plannedWord p k) (w .at)) (λ _ _. no-error)) (λ _ _. no-error))
-      go false false = no-error
 
 -- Calls with a schema file.
 
