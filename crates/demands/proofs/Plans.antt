@@ -1,20 +1,27 @@
 -- Demand 3: plans, for every schema, top or nested, of a valid schema file.
 -- Assumes nothing.
 use Prim.Native.Nat.{ℕ, zero, suc, _≤_, _<_}
-use mathlib.Core.List.{List}
-use mathlib.Core.Bool.{true, false}
+use mathlib.Core.List.{List, [], _∷_, map}
+use mathlib.Core.Bool.{Bool, true, false, true≢false}
 use mathlib.Core.Path.{_≡_, refl, sym, ap, _∙_}
 use native.Mathlib.Omega.{arith}
 use lib.ListN.{length, getD}
 use lib.Seq.{ext-getD}
-use lib.Dec.{eqb}
+use lib.Dec.{eqb, ltb}
+use borrow.Author.Tests.{ltb-true}
 use Rattle.wire.specs.declared.error.Input.the-variants as input
-use Rattle.wire.specs.Read.{Bytes, AreBytes, Read, ok, about, sized}
+use Rattle.wire.specs.Read.{Bytes, AreBytes, Read, ok, pick, check, about, sizedBy, sized}
 use Rattle.wire.proofs.Pieces.{ok-ok}
 use Rattle.column.specs.declared.column.Column.{Column}
+use Rattle.column.specs.Types.{types, kindIn, kindOf}
 use Rattle.column.specs.Columns.{isNullable}
 use Rattle.row.specs.Presence.{noColumn}
 use Rattle.row.specs.Rows.{lookUp, lookUpRow}
+use Rattle.schema.specs.Numbers.{thirdGroup, secondGroup, numberIn}
+use Rattle.schema.specs.Tree.{member}
+use Rattle.schema.specs.Reader.{readNumber, readRange, readFixed, readVariable, readChapter, readKind, readColumn, readColumns, readSchema, ended, readFile, fileOf}
+use Rattle.schema.specs.Schemas.{ownColumns, nestedSchemas, schemasOf, readSchemas, schemaAt}
+use Rattle.schema.specs.Questions.{withSchema}
 use Rattle.plan.specs.declared.plan.Plan.{Plan}
 use Rattle.plan.specs.Plans.{planOf, plannedRow, fixedPlace}
 use Rattle.plan.specs.Places.{placeOf}
@@ -25,6 +32,7 @@ use Rattle.adtg.specs.Rows.{lookUpIn}
 use Rattle.adtg.specs.Plans.{columnsOf, planIn}
 use Rattle.adtg.proofs.Selected.{asks-columns, columns-kept, columns-flags, plan-columns, columns-plan}
 use Rattle.demands.specs.Agreement.{Agree}
+use Rattle.demands.specs.Examples.{S, T}
 
 -- For every row and every column number, looking up through the plan that a schema makes gives the whole answer of the walk.
 pub plan-route-is-walk :
@@ -89,3 +97,38 @@ module _ (file other : Bytes) (number second : ℕ) (cs ds : List Column) (bytes
         let x : p ≡ planOf cs = ok-ok (sym h ∙ columns-plan file number cs e) in
         let y : q ≡ planOf ds = ok-ok (sym g ∙ columns-plan other second ds f) in
         (λ s. same-agree (same-columns cs ds (columns-kept file number cs bytes e) (columns-kept other second ds others f) (sym x ∙ s ∙ y)), λ a. x ∙ ap planOf (agree-same a) ∙ sym y)
+
+-- The premises are met: S and T are bytes, and each of their schemas makes a plan.
+
+small : Bytes → Bool
+small [] = true
+small (x ∷ xs) = pick (ltb x 256) (small xs) false
+
+small-bytes : (s : Bytes) → small s ≡ true → AreBytes s
+unfolding small
+small-bytes [] e i = omega arith
+small-bytes (x ∷ xs) e i = go (ltb x 256) refl (small-bytes xs) e i
+  where
+    go : (t : Bool) → ltb x 256 ≡ t → (small xs ≡ true → AreBytes xs) → pick t (small xs) false ≡ true → (i : ℕ) → getD (x ∷ xs) i 0 < 256
+    go true q rest e zero = ltb-true _ _ q
+    go true q rest e (suc i) = rest e i
+    go false q rest e i = absurd (true≢false (sym e))
+
+pub S-bytes : AreBytes S
+unfolding small
+S-bytes = small-bytes S refl
+
+pub T-bytes : AreBytes T
+unfolding small
+T-bytes = small-bytes T refl
+
+abbrev column : (code flags maximum : ℕ) → Column
+column code flags maximum = record { code = code; flags = flags; maximum = maximum }
+
+pub S-plan : planIn S 0 ≡ ok (planOf (column 0x03 0 0 ∷ column 0x82 1 10 ∷ column 0x11 1 0 ∷ []))
+unfolding planIn withSchema schemaAt check about sized sizedBy types kindIn kindOf thirdGroup secondGroup numberIn member readNumber readRange readFixed readVariable readChapter readKind readColumn readColumns readSchema ended readFile fileOf ownColumns nestedSchemas schemasOf readSchemas
+S-plan = refl
+
+pub T-plans : (planIn T 0 ≡ ok (planOf (column 0x03 0 0 ∷ column 0x88 0 0 ∷ []))) × (planIn T 1 ≡ ok (planOf (column 0x11 0 0 ∷ [])))
+unfolding planIn withSchema schemaAt check about sized sizedBy types kindIn kindOf thirdGroup secondGroup numberIn member readNumber readRange readFixed readVariable readChapter readKind readColumn readColumns readSchema ended readFile fileOf ownColumns nestedSchemas schemasOf readSchemas
+T-plans = (refl, refl)
