@@ -15,7 +15,7 @@ if [ "$(rt version)" != "$(cat KIT)" ]; then
 fi
 
 step rt fmt --check
-step python3 tools/check_promises.py
+step python3 tools/check_docs.py
 
 echo "== rt ci"
 rt ci >"$log" 2>&1

@@ -6,6 +6,7 @@ use schema::file::count_file;
 
 const OUT: i32 = 1;
 
+// Prints a line for each.
 pub fn run() {
     show_counts(b"schema file, count 0: ", b"\x00");
     show_counts(

@@ -8,6 +8,7 @@ use wire::error::Error;
 
 const OUT: i32 = 1;
 
+// Prints a line for each.
 pub fn run() {
     show_header(b"header, empty: ", b"");
     show_header(b"header, unicode 02: ", b"\x01\x07TG!\x01\x00\x00\x02");
@@ -76,6 +77,7 @@ pub fn show_error(e: Error) {
     io::write_all(OUT, b"\n");
 }
 
+// Prints a number.
 pub fn show_number(n: usize) {
     io::print_decimal(OUT, n as u64);
 }

@@ -6,6 +6,7 @@ use row::rows::LookUp;
 
 const OUT: i32 = 1;
 
+// Prints a line for each.
 pub fn run() {
     show_text(
         b"row under S, text of 20 bytes: ",
