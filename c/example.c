@@ -65,8 +65,8 @@ static void print_batch(const adtg_plan *plan, const uint32_t *table, size_t row
 {
     uint64_t out[16];
     uint32_t spans[ROOM * SPAN_NUMBERS];
-    uint32_t code = adtg_find_column(plan->numbers, section, sizeof section, table, rows * ROW_NUMBERS, ADTG_PARENTS, COLUMN, spans,
-                                     ROOM * SPAN_NUMBERS, out);
+    uint32_t code = adtg_find_column(plan->numbers, section, sizeof section, table, rows * ROW_NUMBERS, ADTG_PARENTS,
+                                     COLUMN, spans, ROOM * SPAN_NUMBERS, out);
     must("batch", code, out[0], out[1]);
     printf("column %d of %llu parent rows:", COLUMN, (unsigned long long)out[0]);
     for (uint64_t number = 0; number < out[0]; number++) {

@@ -550,8 +550,8 @@ static void changed_plan(const struct input *in)
     forged_plan(&forged);
 }
 
-/* One look-up for each row of the owner, in spans that have room for it; what a batch is held against. Answers the error or 0, and
- * in `out` what a batch says. */
+/* What a batch is held against: one look-up for each row of the owner. Fills spans that there is room for, and answers the
+ * error or 0, with what a batch says in `out`. */
 static uint32_t one_by_one(const adtg_plan *plan, const struct input *in, const uint32_t *rows, size_t count, size_t owner,
                            uint32_t *spans, size_t space, uint64_t out[16])
 {
@@ -587,14 +587,15 @@ static uint32_t one_by_one(const adtg_plan *plan, const struct input *in, const 
 }
 
 /* A batch answers what look-ups answer row by row, and leaves the spans behind it; after an error all of them. */
-static void batch(enum call call, const adtg_plan *plan, const struct input *in, const uint32_t *rows, size_t count, size_t owner)
+static void batch(enum call call, const adtg_plan *plan, const struct input *in, const uint32_t *rows, size_t count,
+                  size_t owner)
 {
     static uint32_t wanted[MAX_SPACE];
     uint64_t out[16], wanted_out[16];
     uint32_t *spans = lend_numbers(SPANS_SLOT, in->space, in->guard_in_front);
     spoil(out);
-    uint32_t code = adtg_find_column(plan->numbers, in->data.at, in->data.length, rows, count, owner, in->column, spans, in->space,
-                                     out);
+    uint32_t code = adtg_find_column(plan->numbers, in->data.at, in->data.length, rows, count, owner, in->column, spans,
+                                     in->space, out);
     check_reply(call, code, out, 1);
     uint32_t wanted_code = one_by_one(plan, in, rows, count, owner, wanted, in->space, wanted_out);
     need(code == wanted_code && memcmp(out, wanted_out, sizeof out) == 0, "a batch answers in another way");
@@ -651,7 +652,8 @@ static void batches(const struct input *in)
         uint32_t *numbers = rows + ROW_NUMBERS * row;
         numbers[0] = four[0] % 6;
         numbers[1] = four[1] < 250 ? four[1] % 4 : (uint32_t)in->offset;
-        numbers[2] = four[3] < 250 ? (four[2] | (uint32_t)four[3] << 8) % ((uint32_t)in->data.length + 2) : UINT32_MAX - four[2];
+        uint32_t start = (four[2] | (uint32_t)four[3] << 8) % ((uint32_t)in->data.length + 2);
+        numbers[2] = four[3] < 250 ? start : UINT32_MAX - four[2];
         numbers[3] = four[3];
     }
     batch(FIND_COLUMN, &made.plan, in, rows, count, ADTG_PARENTS);
