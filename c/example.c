@@ -1,4 +1,4 @@
-/* example.c: reads a row section and looks up a column of its parent rows through a plan.
+/* example.c: reads a row section and looks up a column of its parent rows through a plan, row by row and all in one call.
  *
  * The bytes stand in the program, so that it runs without files; c/run.sh builds it and compares what it prints. */
 #include <stdio.h>
@@ -6,7 +6,7 @@
 
 #include "adtg.h"
 
-enum { ROOM = 16, ROW_NUMBERS = 4, COLUMN = 0 };
+enum { ROOM = 16, ROW_NUMBERS = 4, SPAN_NUMBERS = 2, COLUMN = 0 };
 
 /* A four-byte integer, and a chapter with child id 7 whose rows have one byte. */
 static const uint8_t schema[] = {0x02, 0x03, 0x00, 0x88, 0x01, 0x00, 0x07, 0x01, 0x11, 0x00};
@@ -18,6 +18,7 @@ static const uint8_t section[] = {
     0x07, 0x05, 0x00, 0x00, 0x00,                   /* a parent row */
     0x87, 0x07, 0x00, 0x00, 0x00, 0x2A,             /* a child row */
     0x8A, 0x07, 0x00, 0x00, 0x00, 0x80, 0x00, 0x2B, /* and its change */
+    0x07, 0x06, 0x00, 0x00, 0x00,                   /* another parent row */
     0x0F,
 };
 
@@ -33,6 +34,12 @@ static void must(const char *call, uint32_t code, uint64_t offset, uint64_t inpu
     }
 }
 
+static void print_bytes(const uint8_t *bytes, uint64_t start, uint64_t end)
+{
+    for (uint64_t at = start; at < end; at++)
+        printf(" %02X", bytes[at]);
+}
+
 /* Prints one column of a row, found through the plan. */
 static void print_column(const adtg_plan *plan, const uint8_t *row, size_t length)
 {
@@ -41,8 +48,7 @@ static void print_column(const adtg_plan *plan, const uint8_t *row, size_t lengt
     printf("column %d:", COLUMN);
     switch (found.kind) {
     case ADTG_FIELD:
-        for (uint64_t at = found.first; at < found.second; at++)
-            printf(" %02X", row[at]);
+        print_bytes(row, found.first, found.second);
         break;
     case ADTG_NULL:
         printf(" null");
@@ -50,6 +56,29 @@ static void print_column(const adtg_plan *plan, const uint8_t *row, size_t lengt
     case ADTG_CHAPTER:
         printf(" a chapter");
         break;
+    }
+    printf("\n");
+}
+
+/* Prints the same column of all parent rows of a table, found in one call. */
+static void print_batch(const adtg_plan *plan, const uint32_t *table, size_t rows)
+{
+    uint64_t out[16];
+    uint32_t spans[ROOM * SPAN_NUMBERS];
+    uint32_t code = adtg_find_column(plan->numbers, section, sizeof section, table, rows * ROW_NUMBERS, ADTG_PARENTS,
+                                     COLUMN, spans, ROOM * SPAN_NUMBERS, out);
+    must("batch", code, out[0], out[1]);
+    printf("column %d of %llu parent rows:", COLUMN, (unsigned long long)out[0]);
+    for (uint64_t number = 0; number < out[0]; number++) {
+        const uint32_t *span = spans + SPAN_NUMBERS * number;
+        if (number > 0)
+            printf(",");
+        if (span[0] == ADTG_NULL_SPAN)
+            printf(" null");
+        else if (span[0] == ADTG_CHAPTER_SPAN)
+            printf(" a chapter");
+        else
+            print_bytes(section, span[0], span[1]);
     }
     printf("\n");
 }
@@ -82,6 +111,9 @@ int main(void)
         if (row[0] == ADTG_PARENT)
             print_column(&made.plan, section + start, sizeof section - start);
     }
+
+    /* The same column of all parent rows: the fields are told by where they stand in the section. */
+    print_batch(&made.plan, table, rows);
 
     /* Against another schema the plan is refused. */
     code = adtg_check_plan(made.plan, changed_schema, sizeof changed_schema, 0, out);

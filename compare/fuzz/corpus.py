@@ -35,6 +35,9 @@ def parts(call, words):
     if call == "read_section":
         return {"file": run(words[0]), "data": run(words[1]), "space": int(words[2])}
     start = {"file": run(words[0]), "number": int(words[1])}
+    if call == "find_column":
+        owner = 0 if words[4] == "parents" else int(words[4])
+        return {**start, "data": run(words[2]), "offset": owner, "column": int(words[5]), "space": int(words[6])}
     if call == "look_up":
         return {**start, "data": run(words[2]), "column": int(words[3])}
     if call == "field_count":

@@ -22,6 +22,7 @@
 #define HEAD 8u               /* bytes of numbers */
 #define ROW_NUMBERS 4u        /* numbers of a row in a table */
 #define ENTRY_NUMBERS 3u      /* numbers of an entry for a row writer */
+#define SPAN_NUMBERS 2u       /* numbers of a row in the spans of a batch */
 #define LAST_ERROR 20u
 #define LAST_INPUT 20u
 
@@ -29,14 +30,14 @@ enum token { PARENT = 0x07, CHILD = 0x87, CHANGE = 0x8A, DELETE = 0x8C, END = 0x
 enum row_kind { PARENT_ROW = 1, CHILD_ROW = 2, CHANGED_ROW = 3, DELETED_ROW = 4 };
 
 /* Places for what is lent. */
-enum slot { FILE_SLOT, DATA_SLOT, FIRST_SLOT, SECOND_SLOT, TABLE_SLOT, OUTPUT_SLOT, SLOTS };
+enum slot { FILE_SLOT, DATA_SLOT, FIRST_SLOT, SECOND_SLOT, TABLE_SLOT, OUTPUT_SLOT, SPANS_SLOT, SLOTS };
 
 /* The calls, as the counters know them. */
 enum call {
     READ_HEADER, WRITE_HEADER, WRITE_HEADER_SHORT, READ_OPTIONS, WRITE_OPTIONS, READ_SCHEMA, SCHEMA_COLUMNS, SCHEMA_COLUMN,
     SCHEMA_OF_CHILD, WRITE_SCHEMA, SCHEMA_NUMBERS, LOOK_UP, FIELD_COUNT, ROW_END, LOOK_UPDATE, UPDATE_END, CURRENT,
     WRITE_ORIGINAL, WRITE_UPDATE, READ_SECTION, MAKE_PLAN, CHECK_PLAN, FIXED_PLACE, FIND, OPEN_ROW, FIND_OPENED,
-    FORGED_PLACE, FORGED_FIND, FORGED_OPEN, FORGED_FIND_OPENED
+    FORGED_PLACE, FORGED_FIND, FORGED_OPEN, FORGED_FIND_OPENED, FIND_COLUMN, FORGED_FIND_COLUMN
 };
 
 /* What the answers were, for the fuzzer. */
@@ -113,12 +114,14 @@ static struct bytes lend(enum slot slot, const uint8_t *from, size_t length, int
     return (struct bytes){at, length};
 }
 
-static uint32_t *lend_table(size_t count, int guard_in_front)
+static uint32_t *lend_numbers(enum slot slot, size_t count, int guard_in_front)
 {
-    uint8_t *table = place(TABLE_SLOT, count * sizeof(uint32_t), guard_in_front);
-    memcpy(table, before, count * sizeof(uint32_t));
-    return (uint32_t *)(void *)table;
+    uint8_t *numbers = place(slot, count * sizeof(uint32_t), guard_in_front);
+    memcpy(numbers, before, count * sizeof(uint32_t));
+    return (uint32_t *)(void *)numbers;
 }
+
+static uint32_t *lend_table(size_t count, int guard_in_front) { return lend_numbers(TABLE_SLOT, count, guard_in_front); }
 
 static uint8_t *lend_output(size_t size, int guard_in_front)
 {
@@ -547,6 +550,118 @@ static void changed_plan(const struct input *in)
     forged_plan(&forged);
 }
 
+/* What a batch is held against: one look-up for each row of the owner. Fills spans that there is room for, and answers the
+ * error or 0, with what a batch says in `out`. */
+static uint32_t one_by_one(const adtg_plan *plan, const struct input *in, const uint32_t *rows, size_t count, size_t owner,
+                           uint32_t *spans, size_t space, uint64_t out[16])
+{
+    size_t length = in->data.length, found_rows = 0;
+    memset(out, 0, 16 * sizeof(uint64_t));
+    for (size_t row = 0; row < count / ROW_NUMBERS; row++) {
+        const uint32_t *numbers = rows + ROW_NUMBERS * row;
+        if ((numbers[0] == PARENT_ROW ? ADTG_PARENTS : numbers[1]) != owner) {
+            continue;
+        }
+        size_t start = numbers[2] < length ? numbers[2] : length;
+        adtg_found found = adtg_find(plan, in->data.at + start, length - start, in->column);
+        if (found.code != 0) {
+            int in_row = found.second == ADTG_ROW;
+            out[0] = in_row ? start + found.first : found.first;
+            out[1] = in_row ? ADTG_SECTION : found.second;
+            return found.code;
+        }
+        if (found_rows < space / SPAN_NUMBERS) {
+            uint32_t mark = found.kind == ADTG_NULL ? ADTG_NULL_SPAN : ADTG_CHAPTER_SPAN;
+            int is_field = found.kind == ADTG_FIELD;
+            spans[SPAN_NUMBERS * found_rows] = is_field ? (uint32_t)(start + found.first) : mark;
+            spans[SPAN_NUMBERS * found_rows + 1] = is_field ? (uint32_t)(start + found.second) : mark;
+        }
+        found_rows++;
+    }
+    out[0] = found_rows;
+    if (found_rows > space / SPAN_NUMBERS) {
+        out[1] = ADTG_OUTPUT;
+        return ADTG_CAPACITY;
+    }
+    return 0;
+}
+
+/* A batch answers what look-ups answer row by row, and leaves the spans behind it; after an error all of them. */
+static void batch(enum call call, const adtg_plan *plan, const struct input *in, const uint32_t *rows, size_t count,
+                  size_t owner)
+{
+    static uint32_t wanted[MAX_SPACE];
+    uint64_t out[16], wanted_out[16];
+    uint32_t *spans = lend_numbers(SPANS_SLOT, in->space, in->guard_in_front);
+    spoil(out);
+    uint32_t code = adtg_find_column(plan->numbers, in->data.at, in->data.length, rows, count, owner, in->column, spans,
+                                     in->space, out);
+    check_reply(call, code, out, 1);
+    uint32_t wanted_code = one_by_one(plan, in, rows, count, owner, wanted, in->space, wanted_out);
+    need(code == wanted_code && memcmp(out, wanted_out, sizeof out) == 0, "a batch answers in another way");
+    size_t filled = code == 0 ? SPAN_NUMBERS * out[0] : 0;
+    need(filled <= in->space && memcmp(spans, wanted, filled * sizeof(uint32_t)) == 0, "a batch finds something else");
+    table_is_kept(spans, filled, in->space);
+    for (size_t at = 0; at < filled; at += SPAN_NUMBERS) {
+        int is_mark = spans[at] == spans[at + 1] && spans[at] >= ADTG_CHAPTER_SPAN;
+        need(is_mark || (spans[at] <= spans[at + 1] && spans[at + 1] <= in->data.length), "a span outside the section");
+    }
+}
+
+/* Batches over the table of the section, where it has one, and over rows of any numbers: by the plan that is made, and by one
+ * that is then changed in a few bytes. */
+static void batches(const struct input *in)
+{
+    uint64_t out[16];
+    adtg_plan_answer made = adtg_make_plan(in->file.at, in->file.length, in->number);
+    adtg_plan forged = made.plan;
+    uint8_t *bytes = (uint8_t *)forged.numbers;
+    for (size_t at = 0; at + 2 < in->data.length && at < 12; at += 3) {
+        bytes[(in->data.at[at] | (size_t)in->data.at[at + 1] << 8) % sizeof forged.numbers] ^= in->data.at[at + 2];
+    }
+    size_t id = in->offset;
+
+    size_t space = in->data.length * ROW_NUMBERS;
+    if (space * sizeof(uint32_t) <= AREA) {
+        uint32_t *table = lend_table(space, in->guard_in_front);
+        uint32_t code = adtg_read_section(in->file.at, in->file.length, in->data.at, in->data.length, table, space, out);
+        if (code == 0) {
+            size_t count = ROW_NUMBERS * out[0];
+            /* Only as many numbers as there are rows, again at the guard page. */
+            struct bytes rows = lend(SECOND_SLOT, (const uint8_t *)table, count * sizeof(uint32_t), in->guard_in_front);
+            const uint32_t *numbers = (const uint32_t *)(const void *)rows.at;
+            if (count > 0 && numbers[0] != PARENT_ROW) {
+                id = numbers[1];
+            }
+            for (int child = 0; child < 2; child++) {
+                size_t owner = child ? id : ADTG_PARENTS;
+                batch(FIND_COLUMN, &made.plan, in, numbers, count, owner);
+                batch(FORGED_FIND_COLUMN, &forged, in, numbers, count, owner);
+            }
+        }
+    }
+
+    /* Rows of any numbers: kind, id and start from four bytes of the file, and at its end fewer than a row. */
+    size_t count = in->file.length % ROW_NUMBERS + in->file.length / 4 * ROW_NUMBERS;
+    if (count * sizeof(uint32_t) > AREA) {
+        return;
+    }
+    uint32_t *rows = lend_table(count, in->guard_in_front);
+    for (size_t row = 0; row < in->file.length / 4; row++) {
+        const uint8_t *four = in->file.at + 4 * row;
+        uint32_t *numbers = rows + ROW_NUMBERS * row;
+        numbers[0] = four[0] % 6;
+        numbers[1] = four[1] < 250 ? four[1] % 4 : (uint32_t)in->offset;
+        uint32_t start = (four[2] | (uint32_t)four[3] << 8) % ((uint32_t)in->data.length + 2);
+        numbers[2] = four[3] < 250 ? start : UINT32_MAX - four[2];
+        numbers[3] = four[3];
+    }
+    batch(FIND_COLUMN, &made.plan, in, rows, count, ADTG_PARENTS);
+    batch(FORGED_FIND_COLUMN, &forged, in, rows, count, ADTG_PARENTS);
+    batch(FORGED_FIND_COLUMN, &forged, in, rows, count, in->offset % 5);
+    batch(FORGED_FIND_COLUMN, &forged, in, rows, count, ((size_t)1 << 32) + in->offset % 5);
+}
+
 /* Small numbers as they are, two others far over any count. */
 static size_t any_size(uint8_t byte, uint8_t top)
 {
@@ -578,5 +693,6 @@ int LLVMFuzzerTestOneInput(const uint8_t *bytes, size_t size)
     made_plan(&in);
     forged_plan(&in);
     changed_plan(&in);
+    batches(&in);
     return 0;
 }

@@ -182,6 +182,18 @@ pub fn open_look_up(plan: &PlanNumbers, start: usize, row: &[u8], column: usize)
     told(plan_of(plan).find_opened(start, row, column).decode())
 }
 
+/// The archive's batch: how many spans stand at the start of `spans`, two numbers each.
+pub fn find_column(
+    plan: &PlanNumbers,
+    section: &[u8],
+    rows: &[u32],
+    owner: usize,
+    column: usize,
+    spans: &mut [u32],
+) -> Reply<usize> {
+    told(raw::find_column(&plan.numbers, section, rows, owner, column, spans).decode())
+}
+
 /// What a call answered, with the reading's types.
 fn told<T, U: From<T>>(decoded: Result<Result<T, adtg::Error>, Malformed>) -> Reply<U> {
     match decoded {

@@ -1,5 +1,6 @@
 //! `compare vectors FOLDER`, `compare random` and `compare soak`: holds the reading, the vectors
-//! and the archive against each other. `compare bench` measures look-ups and sections of both.
+//! and the archive against each other. `compare bench` measures look-ups, sections and batches of
+//! both.
 
 use std::env;
 use std::num::NonZero;
@@ -8,7 +9,7 @@ use std::process::ExitCode;
 use std::thread::available_parallelism;
 use std::time::Duration;
 
-use compare::bench::{look_ups, sections};
+use compare::bench::{batches, look_ups, sections};
 use compare::trials::{self, Limit};
 use compare::vectors;
 use compare::Totals;
@@ -17,7 +18,8 @@ const USAGE: &str = "usage: compare vectors FOLDER
        compare random [--seed S] [--seconds N | --cases N]
        compare soak [--seed S] [--minutes N] [--threads N]
        compare bench [--count [fixed|nullable|eight|variable COLUMN]]
-       compare bench sections [--count [short|wide|nested]]";
+       compare bench sections [--count [short|wide|nested]]
+       compare bench batch [--count [short|wide|nested]]";
 
 const DEFAULT_SEED: u64 = 1;
 const DEFAULT_CASES: u64 = 200_000;
@@ -48,6 +50,9 @@ fn run(words: &[&str]) -> Result<Totals, String> {
         ["bench", "sections"] => sections::run(),
         ["bench", "sections", "--count"] => sections::count(None),
         ["bench", "sections", "--count", rows] => sections::count(Some(rows)),
+        ["bench", "batch"] => batches::run(),
+        ["bench", "batch", "--count"] => batches::count(None),
+        ["bench", "batch", "--count", rows] => batches::count(Some(rows)),
         ["bench", "--count"] => look_ups::count(None),
         ["bench", "--count", table, column] => {
             let column = column

@@ -5,15 +5,16 @@ use std::path::{Path, PathBuf};
 use std::str::FromStr;
 
 use crate::archive::{self, Reply};
+use crate::reading::batch::{find_column, CHAPTER_MARK, NULL_MARK, PARENTS, SPAN_NUMBERS};
 use crate::reading::encode::{entry_numbers, write_original, write_update, Entry};
 use crate::reading::header::read_header;
 use crate::reading::options::read_options;
 use crate::reading::plan::make_plan;
 use crate::reading::row::{field_count, look_up};
-use crate::reading::schema::{read_schema, write_schema};
+use crate::reading::schema::{read_schema, write_schema, SchemaFile};
 use crate::reading::section::{read_section, ROW_NUMBERS};
 use crate::reading::update::current;
-use crate::reading::Error;
+use crate::reading::{Error, Input};
 use crate::text::{agree, hex, parse_hex, Text};
 use crate::Totals;
 
@@ -106,6 +107,7 @@ fn call_of(name: &str) -> Option<Call> {
         "write_original" => write_original_line,
         "write_update" => write_update_line,
         "read_section" => section_line,
+        "find_column" => find_column_line,
         _ => return None,
     })
 }
@@ -294,6 +296,41 @@ fn archive_section(schema: &[u8], section: &[u8], before: &[u32]) -> String {
     rows_text(&rows, before, &table)
 }
 
+fn find_column_line(inputs: &[&str]) -> Result<Answers, String> {
+    let [schema, number, section, rows, owner, column, numbers] = take(inputs)?;
+    let (schema, section) = (parse_hex(schema)?, parse_hex(section)?);
+    let (number, column) = (parse_number(number)?, parse_number(column)?);
+    let rows = parse_list(rows, parse_number)?;
+    let owner = match owner {
+        "parents" => PARENTS,
+        _ => parse_number(owner)?,
+    };
+    let before: Vec<u32> = (0..parse_number(numbers)?).map(|at| !at).collect();
+    let mut ours = before.clone();
+    let reading = find_in_schema(&schema, number, &section, &rows, owner, column, &mut ours);
+    let mut theirs = before.clone();
+    let archive = archive::make_plan(&schema, number)
+        .and_then(|plan| archive::find_column(&plan, &section, &rows, owner, column, &mut theirs));
+    Ok(Answers {
+        reading: spans_text(&reading, &before, &ours),
+        archive: spans_text(&archive, &before, &theirs),
+    })
+}
+
+/// The reading's batch with the columns of a schema of a file.
+fn find_in_schema(
+    schema: &[u8],
+    number: usize,
+    section: &[u8],
+    rows: &[u32],
+    owner: usize,
+    column: usize,
+    spans: &mut [u32],
+) -> Result<usize, Error> {
+    let file = SchemaFile::read(schema, Input::Schema)?;
+    find_column(file.columns(number)?, section, rows, owner, column, spans)
+}
+
 /// The inputs of a row writer.
 struct RowToWrite {
     schema: Vec<u8>,
@@ -389,6 +426,29 @@ fn rows_text<E: Text>(rows: &Result<usize, E>, before: &[u32], table: &[u32]) ->
         text += &format!(" {number}");
     }
     if table[filled..] != before[filled..] {
+        text += " with other numbers changed";
+    }
+    text
+}
+
+/// The spans that a batch found, or its error. Says so if numbers past the spans changed.
+fn spans_text<E: Text>(found: &Result<usize, E>, before: &[u32], spans: &[u32]) -> String {
+    let (mut text, filled) = match found {
+        Ok(count) => (format!("spans {count}"), count.saturating_mul(SPAN_NUMBERS)),
+        Err(error) => (error.text(), 0),
+    };
+    let Some(numbers) = spans.get(..filled) else {
+        return format!("{text}, past the spans");
+    };
+    for span in numbers.chunks(SPAN_NUMBERS) {
+        text += &match *span {
+            [NULL_MARK, NULL_MARK] => " null".to_string(),
+            [CHAPTER_MARK, CHAPTER_MARK] => " chapter".to_string(),
+            [start, end] => format!(" {start}:{end}"),
+            _ => " part of a span".to_string(),
+        };
+    }
+    if spans[filled..] != before[filled..] {
         text += " with other numbers changed";
     }
     text

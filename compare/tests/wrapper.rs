@@ -1,9 +1,10 @@
 //! What the crate `adtg` makes of the archive's replies: the rows of a table, look-ups through a
-//! plan and in an opened row, entries of the row writers. All against the reading.
+//! plan and in an opened row, batches, entries of the row writers. All against the reading.
 
-use adtg::{Plan, Row, RowKind};
+use adtg::{Owner, Plan, Row, RowKind, Span};
 use compare::generate;
 use compare::random::Random;
+use compare::reading::batch::find_column;
 use compare::reading::encode::Entry;
 use compare::reading::row::{look_up, Answer};
 use compare::reading::schema::SchemaFile;
@@ -62,6 +63,54 @@ fn rows_of_a_section_and_their_columns_are_the_readings() {
             }
         }
     }
+}
+
+#[test]
+fn batches_are_the_look_ups_row_by_row() {
+    let mut random = Random::new(4);
+    let mut found = 0;
+    for _ in 0..ROUNDS {
+        let (file, schemas) = generate::schema_file(&mut random);
+        let (section, wanted) = generate::section(&mut random, &file, &schemas);
+        let mut table = vec![0; wanted.len()];
+        let rows = adtg::read_section(&file, &section, &mut table).expect("the section is sound");
+        for number in 0..schemas.schema_count() {
+            let id = schemas.id_at(number);
+            let owner = id.map_or(Owner::Parents, Owner::Child);
+            let plan = Plan::make(&file, number).expect("the schema is sound");
+            let columns = schemas.columns_at(number);
+            let own: Vec<Row> = rows.iter().filter(|row| row.child_id == id).collect();
+            for column in 0..columns.len() {
+                let mut numbers = vec![9; 2 * own.len() + 1];
+                let batch = plan.find_column(&section, rows.numbers(), owner, column, &mut numbers);
+                let spans: Vec<Span> = batch.expect("the rows are sound").iter().collect();
+                let one_by_one = own.iter().map(|row| {
+                    let data = &section[row.original..];
+                    match look_up(&file, number, data, column).expect("the row is sound") {
+                        Answer::Field { place, .. } => Span::Field {
+                            start: row.original + place.start,
+                            end: row.original + place.end,
+                        },
+                        Answer::Null => Span::Null,
+                        Answer::Chapter => Span::Chapter,
+                    }
+                });
+                assert_eq!(spans, one_by_one.collect::<Vec<Span>>());
+                let mut ours = vec![9; numbers.len()];
+                let count = find_column(
+                    columns,
+                    &section,
+                    &wanted,
+                    owner.number(),
+                    column,
+                    &mut ours,
+                );
+                assert_eq!((count, ours), (Ok(own.len()), numbers));
+                found += spans.len();
+            }
+        }
+    }
+    assert!(found > ROUNDS, "{found}");
 }
 
 #[test]

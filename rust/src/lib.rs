@@ -5,7 +5,7 @@
 //! panics on any input: a panic says that a library of another version was linked.
 //!
 //! ```
-//! use adtg::{read_section, ErrorKind, Plan, RowKind, ROW_NUMBERS};
+//! use adtg::{read_section, ErrorKind, Owner, Plan, RowKind, ROW_NUMBERS};
 //!
 //! # fn main() -> Result<(), adtg::Error> {
 //! // A four-byte integer, and a chapter whose rows have one byte.
@@ -30,6 +30,13 @@
 //!     assert_eq!(field, Some(&[5, 0, 0, 0][..]));
 //! }
 //!
+//! // The same column of all parent rows in one call.
+//! let mut spans = [0; 16];
+//! let spans = plan.find_column(&section, rows.numbers(), Owner::Parents, 0, &mut spans)?;
+//! for span in spans.iter() {
+//!     assert_eq!(span.part(&section), Some(&[5, 0, 0, 0][..]));
+//! }
+//!
 //! let error = plan.look_up(&[5, 0], 0).unwrap_err();
 //! assert_eq!((error.kind, error.offset), (ErrorKind::Short, 2));
 //! # Ok(())
@@ -44,11 +51,13 @@
 //! | [`mod@write`] | the writers of rows and update data |
 //! | [`section`] | row sections and the table of their rows |
 //! | [`plan`], [`find`] | plans, and look-ups through them |
+//! | [`batch`] | one column of all rows of one owner, through a plan |
 //! | [`raw`] | the calls and their replies as they are |
 
 #![deny(missing_docs)]
 #![deny(unsafe_code)]
 
+pub mod batch;
 pub mod error;
 pub mod find;
 pub mod head;
@@ -60,6 +69,7 @@ pub mod section;
 pub mod update;
 pub mod write;
 
+pub use batch::{Owner, Span, Spans, SPAN_NUMBERS};
 pub use error::{Error, ErrorKind, Input};
 pub use find::{Found, RowHandle};
 pub use head::{

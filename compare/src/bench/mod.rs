@@ -1,5 +1,6 @@
 //! How long the archive and the reading take, on the same inputs in one process.
 
+pub mod batches;
 pub mod look_ups;
 pub mod sections;
 

@@ -15,7 +15,7 @@ use crate::text::{agree, Text};
 use crate::Totals;
 
 /// How many bytes a section has, to the end of a row.
-const BYTES_OF_SECTION: usize = 8_000_000;
+pub(super) const BYTES_OF_SECTION: usize = 8_000_000;
 
 /// How many rounds a case has. In a round each side reads the section once; the other side comes
 /// first in the next.
@@ -28,7 +28,7 @@ const BEFORE: u32 = 0xA5A5_A5A5;
 
 /// What the rows of a section are like.
 #[derive(Clone, Copy, Debug)]
-enum Rows {
+pub(super) enum Rows {
     /// Three fixed columns, none nullable.
     Short,
     /// Thirty columns of all kinds but chapters.
@@ -38,10 +38,10 @@ enum Rows {
 }
 
 impl Rows {
-    const ALL: [Rows; 3] = [Rows::Short, Rows::Wide, Rows::Nested];
+    pub(super) const ALL: [Rows; 3] = [Rows::Short, Rows::Wide, Rows::Nested];
 
     /// The name by which a case is asked for.
-    fn name(self) -> &'static str {
+    pub(super) fn name(self) -> &'static str {
         match self {
             Rows::Short => "short",
             Rows::Wide => "wide",
@@ -77,14 +77,14 @@ impl Rows {
 }
 
 /// A section, its schema file and the table that it makes.
-struct Case {
-    file: Vec<u8>,
-    section: Vec<u8>,
-    wanted: Vec<u32>,
+pub(super) struct Case {
+    pub(super) file: Vec<u8>,
+    pub(super) section: Vec<u8>,
+    pub(super) wanted: Vec<u32>,
 }
 
 impl Case {
-    fn new(rows: Rows) -> Result<Case, String> {
+    pub(super) fn new(rows: Rows) -> Result<Case, String> {
         let mut random = Random::new(SEED);
         let file = rows.file();
         let schemas = SchemaFile::read(&file, Input::Only).map_err(|error| error.text())?;

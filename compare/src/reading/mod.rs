@@ -1,6 +1,7 @@
 //! The rules, read from the papers alone: one module for each piece of the format.
 //! Nothing here knows the proved code.
 
+pub mod batch;
 pub mod column;
 pub mod encode;
 pub mod error;

@@ -223,7 +223,7 @@ fn row(random: &mut Random, subject: &Subject) -> Vec<u8> {
 }
 
 /// A plan with something wrong in it, at times with nothing.
-fn forged(random: &mut Random, made: PlanParts) -> PlanParts {
+pub(super) fn forged(random: &mut Random, made: PlanParts) -> PlanParts {
     let mut plan = match random.below(8) {
         0 => any_plan(random),
         1 => likely_plan(random),

@@ -1,6 +1,7 @@
 //! Randomised comparison: valid, damaged and random inputs for every call of the archive,
 //! each held against the reading.
 
+mod batches;
 mod forged;
 mod header;
 mod options;
@@ -55,13 +56,15 @@ const SHORT: [Trial; 15] = [
     sections::read_case,
 ];
 
-/// Trials that ask one row for all its columns, once in `BETWEEN_ROWS`.
-const ROWS: [Trial; 5] = [
+/// Trials that ask one row, or the rows of one section, for all columns, once in `BETWEEN_ROWS`.
+const ROWS: [Trial; 7] = [
     rows::look_up_case,
     rows::look_update_case,
     rows::current_case,
     plans::look_up_case,
     forged::look_up_case,
+    batches::find_case,
+    batches::forged_case,
 ];
 const BETWEEN_ROWS: usize = 8;
 
@@ -147,6 +150,7 @@ fn run_oversized(run: &mut Run) {
     forged::oversized(&bytes, run);
     row_writers::oversized(&bytes, run);
     sections::oversized(&bytes, run);
+    batches::oversized(&bytes, run);
 }
 
 impl Limit {

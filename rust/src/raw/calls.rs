@@ -176,6 +176,18 @@ extern "C" {
         row_length: usize,
         column: usize,
     ) -> Found;
+    fn adtg_find_column(
+        numbers: *const [u64; Plan::NUMBERS],
+        section: *const u8,
+        section_length: usize,
+        rows: *const u32,
+        rows_length: usize,
+        owner: usize,
+        column: usize,
+        spans: *mut u32,
+        spans_length: usize,
+        out: *mut Numbers,
+    ) -> u32;
 }
 
 /// Calls `adtg_read_header`.
@@ -476,4 +488,29 @@ pub fn planned_look_up(
     column: usize,
 ) -> Found {
     unsafe { adtg_planned_look_up(numbers, start, row.as_ptr(), row.len(), column) }
+}
+
+/// Calls `adtg_find_column`.
+pub fn find_column(
+    numbers: &[u64; Plan::NUMBERS],
+    section: &[u8],
+    rows: &[u32],
+    owner: usize,
+    column: usize,
+    spans: &mut [u32],
+) -> Reply<usize> {
+    Reply::of(|out| unsafe {
+        adtg_find_column(
+            numbers,
+            section.as_ptr(),
+            section.len(),
+            rows.as_ptr(),
+            rows.len(),
+            owner,
+            column,
+            spans.as_mut_ptr(),
+            spans.len(),
+            out,
+        )
+    })
 }
