@@ -6,7 +6,7 @@ use mathlib.Core.List.{List, [], _∷_, _++_, append-assoc, append-nil}
 use mathlib.Core.Bool.{Bool, true, false}
 use native.Mathlib.Omega.{arith}
 use lib.ListN.{length, take, drop, set, length-append, take-append-drop}
-use lib.Seq.{take-at, drop-at, length-take-le, paste, paste-zero, paste-suc}
+use lib.Seq.{take-at, drop-at, take-append-seam, length-take-le, paste, paste-zero, paste-suc}
 use lib.Dec.{leb}
 use borrow.Author.Tests.{leb-true, leb-false}
 use Rattle.wire.specs.Read.{Bytes}
@@ -97,3 +97,16 @@ put-four table at a b c d h =
     ∙ ap (λ (t : List ℕ). set t (at + 3) d) (paste-suc table at x 2 0 (omega arith) (omega arith))
     ∙ paste-suc table at x 3 0 (omega arith) (omega arith)
     ∙ sym (put-paste table at x h)
+
+-- Rows that were laid into numbers of their own, copied into a table: they are laid into it.
+pub held-laid :
+    (rs : List Row) (held table : List ℕ) → 4 * length rs ≤ length held → 4 * length rs ≤ length table →
+    put table 0 (take (4 * length rs) (laidFrom 0 rs held)) ≡ laidFrom 0 rs table
+held-laid rs held table h k =
+    let l : length (tableNumbers rs) ≡ 4 * length rs = length-numbers rs in
+    let fits : laidFrom 0 rs held ≡ tableNumbers rs ++ drop (0 + length (tableNumbers rs)) held =
+    laid-all rs held (omega arith) ∙ put-fits held 0 (tableNumbers rs) (omega arith) in
+    ap (λ (x : List ℕ). put table 0 (take (4 * length rs) x)) fits
+    ∙ ap (λ (n : ℕ). put table 0 (take n (tableNumbers rs ++ drop (0 + length (tableNumbers rs)) held))) (sym l)
+    ∙ ap (put table 0) (take-append-seam (tableNumbers rs) (drop (0 + length (tableNumbers rs)) held))
+    ∙ sym (laid-all rs table (omega arith))

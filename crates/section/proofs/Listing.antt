@@ -5,7 +5,7 @@ use mathlib.Core.Path.{_≡_, refl, sym, ap, _∙_}
 use mathlib.Core.List.{List}
 use mathlib.Core.Bool.{Bool, true, false}
 use native.Mathlib.Omega.{arith}
-use lib.ListN.{length}
+use lib.ListN.{length, take}
 use lib.Dec.{leb}
 use borrow.Author.Tests.{le-leb, lt-leb}
 use Rattle.wire.specs.declared.error.Error.{Error}
@@ -15,15 +15,16 @@ use Rattle.wire.specs.declared.error.ErrorKind.the-variants as error
 use Rattle.wire.specs.Errors.{codeOf}
 use Rattle.wire.specs.Read.{Bytes, Read, ok, bad, _>>=_, check, about, limit, sized, refused}
 use Rattle.wire.proofs.Laws.{sized-over, sized-within, length-put}
-use Rattle.wire.proofs.Pieces.{bad-ok}
+use Rattle.wire.specs.Output.{put}
+use Rattle.wire.proofs.Pieces.{bad-ok, ok-ok}
 use Rattle.schema.specs.Schemas.{Schema, readSchemas}
 use Rattle.section.specs.declared.read.RowsRead.{RowsRead}
 use Rattle.section.specs.declared.read.RowsRead.the-variants as read
 use Rattle.grammar.specs.Grammar.{Row}
 use Rattle.grammar.specs.Reader.{section}
 use Rattle.section.specs.Table.{roomFor, tableNumbers, rowsFitting, rowsRead, tableAfter, rowCount, toldRows, Listed}
-use Rattle.section.specs.Scan.{Scanned}
-use Rattle.section.proofs.Laid.{laid-all}
+use Rattle.section.specs.Scan.{laidFrom, Scanned}
+use Rattle.section.proofs.Laid.{laid-all, held-laid}
 
 -- a number of rows is told of rows
 pub rows-told : (r : Read (List Row)) (n : ℕ) → ok n ≡ rowCount r → (rs : List Row) × (r ≡ ok rs) × (n ≡ length rs)
@@ -91,6 +92,20 @@ module _ (S : List Schema) (s : Bytes) (table : List ℕ) where
       where
         by : rowsFitting S s (length table) ≡ ok rs
         by = rw (q, le-leb (length rs) (length table / 4) h) refl
+
+    -- the same of rows that were held, and copied into the table
+    pub fitting-held :
+        (held exit : List ℕ) (n : ℕ) → n ≡ length rs → 4 * n ≤ length held → length rs ≤ length table / 4 →
+        exit ≡ put table 0 (take (4 * n) (laidFrom 0 rs held)) → Listed (rowsFitting S s (length table)) table exit (read.Rows n)
+    fitting-held held exit n z k h e =
+        fitting-rows exit (read.Rows n) h
+        (record {
+          answers = ap (λ (m : ℕ). ok m) z ∙ ap rowCount (sym q);
+          lays =
+              λ rows p.
+              e ∙ ap (λ (m : ℕ). put table 0 (take (4 * m) (laidFrom 0 rs held))) z ∙ held-laid rs held table (omega arith) (omega arith)
+              ∙ ap (λ (x : List Row). laidFrom 0 x table) (ok-ok (sym q ∙ p));
+        })
 
 -- the checks in front of a section
 module _ (file s : Bytes) (numbers : ℕ) where

@@ -23,6 +23,7 @@ use crate::ways::way_over;
 use schema::reader::PlaceRead;
 use schema::reader::read_file;
 use wire::LIMIT;
+use wire::bytes::copy_numbers;
 use wire::error::Error;
 use wire::error::ErrorKind;
 use wire::error::Input;
@@ -154,7 +155,8 @@ fn refuse(e: Error, name: Input) -> RowsRead
     })
 }
 
-// Reads a section by the schemas in a table of slots: first a pass that only counts, then, where the table has room, one that fills it.
+// Reads a section by the schemas in a table of slots. The first pass counts the rows and holds the first 256 of them; where the table has
+// room for all, and more were not held, a second pass fills it.
 fn read_rows(slots: &[u64; 512], schemas: usize, section: &[u8], table: &mut [u32]) -> RowsRead
     requires { ⌜ Sound (now slots) schemas × (length (now section) ≤ 16777216) ⌝ }
     ensures { λ r. ⌜ Listed (rowsFitting (schemasIn 0 schemas (now (slots .entry))) (now (section .entry)) (length (now (table .entry)))) (now (table .entry)) (now (table .exit)) r ⌝ }
@@ -164,8 +166,8 @@ fn read_rows(slots: &[u64; 512], schemas: usize, section: &[u8], table: &mut [u3
     add_updates(slots, &mut words);
     add_forms(slots, schemas, &mut words, &mut forms);
     let numbers = guesses(slots, schemas);
-    let mut none = [0u32; 1];
-    match scan(slots, &words, &forms, &numbers, schemas, section, &mut none) {
+    let mut held = [0u32; 1_024];
+    match scan(slots, &words, &forms, &numbers, schemas, section, &mut held) {
         RowsRead::Refused(e) => refuse(e, Input::Section),
         RowsRead::Rows(n) => {
             if table.len() / 4 < n {
@@ -174,6 +176,10 @@ fn read_rows(slots: &[u64; 512], schemas: usize, section: &[u8], table: &mut [u3
                     offset: n,
                     input: Input::Table,
                 });
+            }
+            if n <= 256 {
+                copy_numbers(table, &held[..4 * n]);
+                return RowsRead::Rows(n);
             }
             scan(slots, &words, &forms, &numbers, schemas, section, table)
         }

@@ -67,3 +67,17 @@ pub fn copy_into(out: &mut [u8], at: usize, bytes: &[u8])
         i += 1;
     }
 }
+
+// Copies `numbers` into `out` from its start on, where they fit; else `out` stays as it is.
+pub fn copy_numbers(out: &mut [u32], numbers: &[u32])
+    ensures { λ r. ⌜ now (out .exit) ≡ put (now (out .entry)) 0 (now (numbers .entry)) ⌝ }
+{
+    if out.len() < numbers.len() {
+        return;
+    }
+    let mut i = 0;
+    while i < numbers.len() {
+        out[i] = numbers[i];
+        i += 1;
+    }
+}
