@@ -4,7 +4,7 @@ use Prim.Native.Nat.{ℕ, _+_, _*_, _/_, _<_, _≤_}
 use mathlib.Core.Path.{_≡_, refl, sym, ap, _∙_}
 use mathlib.Core.List.{List}
 use native.Mathlib.Omega.{arith}
-use lib.ListN.{length}
+use lib.ListN.{length, take}
 use borrow.Author.Tests.{le-leb, lt-leb}
 use Rattle.wire.specs.declared.error.Error.{Error}
 use Rattle.wire.specs.declared.error.Input.{Input}
@@ -12,6 +12,7 @@ use Rattle.wire.specs.declared.error.Input.the-variants as input
 use Rattle.wire.specs.declared.error.ErrorKind.the-variants as error
 use Rattle.wire.specs.Errors.{codeOf}
 use Rattle.wire.specs.Read.{Bytes, Read, ok, bad, check, about, limit, refused}
+use Rattle.wire.specs.Output.{put}
 use Rattle.wire.proofs.Laws.{sized-over, sized-within}
 use Rattle.wire.proofs.Pieces.{bad-ok}
 use Rattle.row.specs.Rows.{Answer}
@@ -19,7 +20,7 @@ use Rattle.batch.specs.declared.find.SpansRead.{SpansRead}
 use Rattle.batch.specs.declared.find.SpansRead.the-variants as read
 use Rattle.batch.specs.Spans.{rowsOf, Span, spansIn, spansBy, spansAfter, Batched}
 use Rattle.batch.specs.Scan.{laidFrom, Pass, pass, passed, toldPass, Scanned}
-use Rattle.batch.proofs.Laid.{laid-all}
+use Rattle.batch.proofs.Laid.{length-laid, laid-all, held-laid}
 
 -- a number of spans is told of spans
 pub spans-told : (r : Read (List Span)) (n : ℕ) {entry exit : List ℕ} {a : SpansRead} → Scanned r entry exit a → a ≡ read.Spans n →
@@ -33,6 +34,16 @@ spans-told (ok xs) n {entry} {exit} c q =
     count-of : {p q : Pass} → ok p ≡ ok q → p .count ≡ q .count
     count-of e = cc
 spans-told (bad c o i) n {entry} {exit} d q = absurd (bad-ok (sym (ap (λ (a : SpansRead). toldPass a exit) (sym q) ∙ d .told)))
+
+-- and the numbers hold them
+pub spans-laid : (xs : List Span) (n : ℕ) {r : Read (List Span)} {entry exit : List ℕ} {a : SpansRead} → Scanned r entry exit a → a ≡ read.Spans n → r ≡ ok xs →
+    exit ≡ laidFrom 0 xs entry
+unfolding passed
+spans-laid xs n {entry = entry} {exit = exit} c q e =
+    numbers-of (ap (λ (a : SpansRead). toldPass a exit) (sym q) ∙ c .told ∙ ap (passed (pass 0 entry)) e)
+  where
+    numbers-of : {p q : Pass} → ok p ≡ ok q → p .numbers ≡ q .numbers
+    numbers-of e = cc
 
 -- an error is told of an error
 pub error-told : (r : Read (List Span)) (e : Error) {entry exit : List ℕ} {a : SpansRead} → Scanned r entry exit a → a ≡ read.Refused e → r ≡ refused e
@@ -109,3 +120,18 @@ module _ (look : Bytes → Read Answer) (s : Bytes) (rows : List ℕ) (owner : �
                 answers = rw (fitting l, y) refl;
                 leaves = rw (fitting l) (numbers-of d ∙ laid-all xs numbers (omega arith));
               }
+
+      -- the same of spans that were held, and copied into the numbers
+      pub found-held :
+          (held exit : List ℕ) (n : ℕ) → n ≡ length xs → 2 * n ≤ length held → length xs ≤ length numbers / 2 →
+          exit ≡ put numbers 0 (take (2 * n) (laidFrom 0 xs held)) → Batched (spansBy look s rows owner (length numbers)) numbers exit (read.Spans n)
+      unfolding passed
+      found-held held exit n z k l e = found-spans exit (read.Spans n) l (record { told = told; long = ap length laid ∙ length-laid 0 xs numbers })
+        where
+          laid : exit ≡ laidFrom 0 xs numbers
+          laid = e ∙ ap (λ (m : ℕ). put numbers 0 (take (2 * m) (laidFrom 0 xs held))) z ∙ held-laid xs held numbers (omega arith) (omega arith)
+
+          told : toldPass (read.Spans n) exit ≡ passed (pass 0 numbers) (spansIn look s owner (rowsOf rows))
+          told =
+              let y : n ≡ 0 + length xs = omega arith in
+              ap (λ (m : ℕ). ok (pass m exit)) y ∙ ap (λ (x : List ℕ). ok (pass (0 + length xs) x)) laid ∙ ap (passed (pass 0 numbers)) (sym q)

@@ -7,7 +7,7 @@ use native.Mathlib.Omega.{arith}
 use lib.ListN.{length, take, drop, set, length-append, take-append-drop}
 use lib.Seq.{paste, paste-zero, paste-suc}
 use Rattle.wire.specs.Output.{put}
-use Rattle.wire.proofs.Laws.{put-fits, put-paste, length-put, put-put}
+use Rattle.wire.proofs.Laws.{take-put, put-fits, put-paste, length-put, put-put}
 use Rattle.batch.specs.Spans.{Span, spanNumbers, spansNumbers}
 use Rattle.batch.specs.Scan.{laidFrom}
 
@@ -39,6 +39,17 @@ laid-piece i (x ∷ xs) numbers h =
 
 pub laid-all : (xs : List Span) (numbers : List ℕ) → 2 * length xs ≤ length numbers → laidFrom 0 xs numbers ≡ put numbers 0 (spansNumbers xs)
 laid-all xs numbers h = laid-piece 0 xs numbers (omega arith)
+
+-- Spans that were laid into numbers of their own, copied into others: they are laid into these.
+pub held-laid :
+    (xs : List Span) (held numbers : List ℕ) → 2 * length xs ≤ length held → 2 * length xs ≤ length numbers →
+    put numbers 0 (take (2 * length xs) (laidFrom 0 xs held)) ≡ laidFrom 0 xs numbers
+held-laid xs held numbers h k =
+    let l : length (spansNumbers xs) ≡ 2 * length xs = length-numbers xs in
+    ap (λ (x : List ℕ). put numbers 0 (take (2 * length xs) x)) (laid-all xs held (omega arith))
+    ∙ ap (λ (n : ℕ). put numbers 0 (take n (put held 0 (spansNumbers xs)))) (sym l)
+    ∙ ap (put numbers 0) (take-put held (spansNumbers xs) (omega arith))
+    ∙ sym (laid-all xs numbers (omega arith))
 
 -- two numbers stored one by one
 pub put-two : (numbers : List ℕ) (at a b : ℕ) → at + 2 ≤ length numbers → set (set numbers at a) (at + 1) b ≡ put numbers at (a ∷ b ∷ [])

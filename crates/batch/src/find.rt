@@ -1,4 +1,4 @@
-// The batch call: a pass over a table of rows that only counts, then one that fills the caller's numbers.
+// The batch call: a pass over a table of rows that counts, and for many rows one that fills the caller's numbers.
 ghost use mathlib.Core.Path.{_≡_};
 ghost use Prim.Native.Nat.{_+_, _*_, _≤_};
 ghost use lib.ListN.{length};
@@ -12,6 +12,7 @@ use plan::look::from_lent;
 use plan::plan::Plan;
 use row::rows::LookUp;
 use wire::LIMIT;
+use wire::bytes::copy_numbers;
 use wire::error::Error;
 use wire::error::ErrorKind;
 use wire::error::Input;
@@ -161,8 +162,8 @@ pub fn find_lent(
             input: Input::Section,
         });
     }
-    let mut none = [0u32; 1];
-    match scan(plan, section, rows, owner, column, &mut none) {
+    let mut held = [0u32; 512];
+    match scan(plan, section, rows, owner, column, &mut held) {
         SpansRead::Refused(e) => SpansRead::Refused(e),
         SpansRead::Spans(n) => {
             if spans.len() / 2 < n {
@@ -171,6 +172,10 @@ pub fn find_lent(
                     offset: n,
                     input: Input::Output,
                 });
+            }
+            if n <= 256 {
+                copy_numbers(spans, &held[..2 * n]);
+                return SpansRead::Spans(n);
             }
             scan(plan, section, rows, owner, column, spans)
         }

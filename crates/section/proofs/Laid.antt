@@ -6,12 +6,12 @@ use mathlib.Core.List.{List, [], _∷_, _++_, append-assoc, append-nil}
 use mathlib.Core.Bool.{Bool, true, false}
 use native.Mathlib.Omega.{arith}
 use lib.ListN.{length, take, drop, set, length-append, take-append-drop}
-use lib.Seq.{take-at, drop-at, take-append-seam, length-take-le, paste, paste-zero, paste-suc}
+use lib.Seq.{take-at, drop-at, length-take-le, paste, paste-zero, paste-suc}
 use lib.Dec.{leb}
 use borrow.Author.Tests.{leb-true, leb-false}
 use Rattle.wire.specs.Read.{Bytes}
 use Rattle.wire.specs.Output.{put}
-use Rattle.wire.proofs.Laws.{put-fits, put-not, put-paste, length-put, put-put}
+use Rattle.wire.proofs.Laws.{take-put, put-fits, put-not, put-paste, length-put, put-put}
 use Rattle.grammar.specs.Grammar.{Row}
 use Rattle.section.specs.Table.{rowNumbers, tableNumbers}
 use Rattle.section.specs.Scan.{laidFrom}
@@ -104,9 +104,7 @@ pub held-laid :
     put table 0 (take (4 * length rs) (laidFrom 0 rs held)) ≡ laidFrom 0 rs table
 held-laid rs held table h k =
     let l : length (tableNumbers rs) ≡ 4 * length rs = length-numbers rs in
-    let fits : laidFrom 0 rs held ≡ tableNumbers rs ++ drop (0 + length (tableNumbers rs)) held =
-    laid-all rs held (omega arith) ∙ put-fits held 0 (tableNumbers rs) (omega arith) in
-    ap (λ (x : List ℕ). put table 0 (take (4 * length rs) x)) fits
-    ∙ ap (λ (n : ℕ). put table 0 (take n (tableNumbers rs ++ drop (0 + length (tableNumbers rs)) held))) (sym l)
-    ∙ ap (put table 0) (take-append-seam (tableNumbers rs) (drop (0 + length (tableNumbers rs)) held))
+    ap (λ (x : List ℕ). put table 0 (take (4 * length rs) x)) (laid-all rs held (omega arith))
+    ∙ ap (λ (n : ℕ). put table 0 (take n (put held 0 (tableNumbers rs)))) (sym l)
+    ∙ ap (put table 0) (take-put held (tableNumbers rs) (omega arith))
     ∙ sym (laid-all rs table (omega arith))

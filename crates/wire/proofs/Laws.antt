@@ -8,7 +8,7 @@ use native.Mathlib.Numerals.{add-one}
 use native.Mathlib.Omega.{arith}
 use native.Mathlib.Nat.{add-zero, div-add-mod', pow-suc, div-lt-iff-lt-mul, zero-div}
 use lib.ListN.{length, getD, take, drop, length-append, length-take, length-drop, take-append-drop, drop-of-length-le, List·getD-eq-default}
-use lib.Seq.{drop-cons, take-at, drop-at, length-take-le, drop-drop, take-length, paste, length-paste}
+use lib.Seq.{drop-cons, take-at, drop-at, take-append-seam, length-take-le, drop-drop, take-length, paste, length-paste}
 use lib.Dec.{ltb, leb, eqb}
 use borrow.Author.Tests.{ltb-true, ltb-false, leb-true, leb-false, le-leb, lt-leb, eq-eqb, ne-eqb}
 use Rattle.wire.specs.declared.error.Error.{Error}
@@ -105,6 +105,10 @@ length-int (suc size) n = ap suc (length-int size (n / 256))
 pub put-fits : (out : Bytes) (at : ℕ) (x : Bytes) → at + length x ≤ length out → put out at x ≡ take at out ++ x ++ drop (at + length x) out
 unfolding put
 put-fits out at x h = rw (le-leb (at + length x) (length out) h) refl
+
+-- a piece that was put at the start can be taken again
+pub take-put : (out piece : Bytes) → length piece ≤ length out → take (length piece) (put out 0 piece) ≡ piece
+take-put out piece h = ap (take (length piece)) (put-fits out 0 piece (omega arith)) ∙ take-append-seam piece (drop (0 + length piece) out)
 
 pub put-not : (out : Bytes) (at : ℕ) (x : Bytes) → length out < at + length x → put out at x ≡ out
 unfolding put
