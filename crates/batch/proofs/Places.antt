@@ -15,13 +15,13 @@ use Rattle.wire.specs.Bits.{bitSet}
 use Rattle.wire.proofs.Laws.{bit-past}
 use Rattle.wire.proofs.Pieces.{whole-ok}
 use Rattle.column.specs.declared.column.Column.{Column}
-use Rattle.column.specs.Columns.{isVariable, isChapter, prefixSize, lengthError}
+use Rattle.column.specs.Columns.{isVariable, isChapter, prefixSize, lengthError, isStop}
 use Rattle.column.specs.Fields.{allowed, bytesAt, variableAt}
 use Rattle.row.specs.Presence.{mark, present}
 use Rattle.row.specs.Rows.{Place, place}
 use Rattle.plan.specs.declared.plan.Plan.{Plan}
 use Rattle.plan.specs.Packed.{unpacked, bitIn, widthIn}
-use Rattle.plan.specs.Plans.{isStop, plannedWord, plannedColumn, plannedMark, plannedGap, plannedCount, plannedMap, plannedMarked, stopsTo, fieldIn, passedVariable, passed, visit, visits, jumped, landed, unset, plannedKnown, plannedOpen, plannedAnswer, plannedLookUp, plannedRow}
+use Rattle.plan.specs.Plans.{plannedWord, plannedColumn, plannedMark, plannedGap, plannedCount, plannedMap, plannedMarked, stopsTo, fieldIn, passedVariable, passed, visit, visits, jumped, landed, unset, plannedKnown, plannedOpen, plannedAnswer, plannedLookUp, plannedRow}
 
 -- if the answer is an error, its offset is at most n
 pub data Inside {A : Type 0} (n : ℕ) : Read A → Type 0 where

@@ -22,7 +22,7 @@ use Rattle.header.specs.declared.options.Spans.{Spans}
 use Rattle.header.specs.Header.{signature, headerFields, headerOf}
 use Rattle.header.specs.Options.{token, guid, asyncAllowed, spanAt, spansOf, asyncRest, optionsRest, optionsSized, optionsOf}
 use Rattle.column.specs.declared.column.Column.{Column}
-use Rattle.column.specs.Columns.{isChapter, isVariable}
+use Rattle.column.specs.Columns.{isChapter, isVariable, isStop}
 use Rattle.column.specs.Fields.{bytesAt, variableAt}
 use Rattle.row.specs.Presence.{noColumn, one, mark, marks, markOf, present}
 use Rattle.row.specs.Rows.{Place, Answer, arrive, walked, fieldOf, columnOf, known, lookUp, fieldCount}
@@ -47,7 +47,7 @@ use Rattle.section.specs.Table as table
 use Rattle.grammar.specs.Grammar.{Row}
 use Rattle.plan.specs.declared.plan.Plan.{Plan}
 use Rattle.plan.specs.Packed.{unpacked, widthIn, bitIn}
-use Rattle.plan.specs.Plans.{planOf, isStop, plannedColumn, plannedWord, plannedGap, plannedMap, plannedMarked, plannedMark, plannedCount, stopsTo, fieldIn, passedVariable, passed, visit, visits, jumped, landed, unset, plannedKnown, plannedOpen, plannedAnswer, plannedLookUp, plannedRow}
+use Rattle.plan.specs.Plans.{planOf, plannedColumn, plannedWord, plannedGap, plannedMap, plannedMarked, plannedMark, plannedCount, stopsTo, fieldIn, passedVariable, passed, visit, visits, jumped, landed, unset, plannedKnown, plannedOpen, plannedAnswer, plannedLookUp, plannedRow}
 use Rattle.plan.specs.Handles.{countsOpened, openedLookUp, handled}
 use Rattle.adtg.specs.InSchema.{inSchema}
 use Rattle.adtg.specs.Rows.{lookUpIn, fieldCountIn, rowEndIn}

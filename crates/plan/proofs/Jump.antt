@@ -14,19 +14,17 @@ use Rattle.wire.specs.Bits.{bitSet}
 use Rattle.wire.proofs.Pieces.{about-ok}
 use Rattle.column.specs.declared.column.Column.{Column}
 use Rattle.column.specs.declared.field.Field.{Field}
-use Rattle.column.specs.declared.types.Kind.{Kind}
-use Rattle.column.specs.declared.types.Kind.the-variants.{Fixed, Variable, Wide, Chapter, Unknown}
-use Rattle.column.specs.Types.{widthOf, chapterKind}
-use Rattle.column.specs.Columns.{kind, width, isVariable, isChapter, isNullable}
+use Rattle.column.specs.Columns.{width, isVariable, isChapter, isNullable, isStop}
 use Rattle.column.specs.Fields.{bytesAt, variableAt, fieldAt}
 use Rattle.column.proofs.Laws.{bytes-short, bytes-fit, field-variable, field-fixed, field-past, field-told}
+use Rattle.column.proofs.Stops.{chapter-bare, no-stop}
 use Rattle.row.specs.Presence.{noColumn, one, presenceBytes, Mark, mark, marks, markOf, present, chapterPresent, clear}
 use Rattle.row.specs.Rows.{Place, place, past, reached, step, walk, arrive, opened, walked, Answer, field, null, chapter, fieldOf, columnOf, known, lookUp, lookUpRow}
 use Rattle.row.proofs.Laws.{present-chapter, present-always, step-absent}
 use Rattle.row.proofs.Found.{known-ok, opened-ok}
 use Rattle.plan.specs.declared.plan.Plan.{Plan}
 use Rattle.plan.specs.Packed.{bitIn, widthIn}
-use Rattle.plan.specs.Plans.{isStop, stopsFrom, chapterBits, planOf, Kept, plannedWord, plannedColumn, plannedMark, plannedGap, plannedMarked, fieldIn, passedVariable, passed, visit, visits, stopsTo, jumped, landed, unset, plannedKnown, plannedOpen, plannedAnswer, plannedLookUp, plannedRow}
+use Rattle.plan.specs.Plans.{stopsFrom, chapterBits, planOf, Kept, plannedWord, plannedColumn, plannedMark, plannedGap, plannedMarked, fieldIn, passedVariable, passed, visit, visits, stopsTo, jumped, landed, unset, plannedKnown, plannedOpen, plannedAnswer, plannedLookUp, plannedRow}
 use Rattle.plan.proofs.Arrays.{plannedField, stopCount, Holds, more, planned-holds, count-planned, map-planned, chapters-planned, column-planned, width-planned, mark-planned, stops-planned}
 
 -- Readers one after the other.
@@ -59,16 +57,6 @@ regroup (bad e o i) f g h = refl
 never : {A : Type 0} → true ≡ false → A
 never h = absurd (true≢false h)
 
-chapter-width : (c : Column) → isChapter c ≡ true → width c ≡ 0
-chapter-width c = go (kind c)
-  where
-    go : (k : Kind) → chapterKind k ≡ true → widthOf k ≡ 0
-    go (Fixed w) h = never (sym h)
-    go Variable h = refl
-    go Wide h = refl
-    go Chapter h = refl
-    go Unknown h = refl
-
 module _ (c : Column) where
   stop-plain : isStop c ≡ true → isChapter c ≡ false
   unfolding isStop
@@ -77,15 +65,6 @@ module _ (c : Column) where
       go : (t : Bool) → isChapter c ≡ t → pick t false (pick (isNullable c) true (isVariable c)) ≡ true → isChapter c ≡ false
       go true e x = never (sym x)
       go false e x = e
-
-  -- no stop and no chapter: not nullable, of fixed width
-  no-stop : isStop c ≡ false → isChapter c ≡ false → (isNullable c ≡ false) × (isVariable c ≡ false)
-  unfolding isStop
-  no-stop h x = go (isNullable c) refl (sym (rw x) ∙ h)
-    where
-      go : (t : Bool) → isNullable c ≡ t → pick t true (isVariable c) ≡ false → (isNullable c ≡ false) × (isVariable c ≡ false)
-      go true e y = never y
-      go false e y = (e, y)
 
 -- a stop of fixed type is present where its bit is set
 stop-present : (row : Bytes) (c : Column) (b : ℕ) → isStop c ≡ true → isVariable c ≡ false → present row (mark c b) ≡ bitSet row b
@@ -166,7 +145,7 @@ module _ (row : Bytes) (p n : ℕ) where
       where
         go : (t : Bool) → isChapter c ≡ t → standing row p n >>= step (present row) row (mark c b) ≡ standing row (p + width c) n
         go true e =
-            let z : p ≡ p + width c = omega (arith, chapter-width c e) in
+            let z : p ≡ p + width c = omega (arith, chapter-bare c e .1) in
             step-missing (present-chapter row c b e) ∙ ap (λ (q : ℕ). standing row q n) z
         go false e =
             let (x, y) = no-stop c h e in

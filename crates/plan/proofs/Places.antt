@@ -12,12 +12,12 @@ use Rattle.wire.specs.Read.{Bytes, Read, ok, bad, _>>=_, pick}
 use Rattle.wire.proofs.Pieces.{bad-ok, bind-ok, ok-ok}
 use Rattle.column.specs.declared.column.Column.{Column}
 use Rattle.column.specs.declared.field.Field.{Field}
-use Rattle.column.specs.Columns.{width, isVariable, isChapter, isNullable, prefixBytes}
+use Rattle.column.specs.Columns.{width, isVariable, isChapter, isNullable, prefixBytes, isStop}
 use Rattle.column.proofs.Laws.{field-told}
 use Rattle.row.specs.Presence.{noColumn, one, presenceBytes, mark, marks, present}
 use Rattle.row.specs.Rows.{Place, place, step, walk, walked, field, known, lookUp}
 use Rattle.row.proofs.Found.{known-ok, opened-ok, look-up-told}
-use Rattle.plan.specs.Plans.{isStop, gapsFrom, planOf, Kept, plannedColumn, plannedGap, fixed, noStops, fixedPlace}
+use Rattle.plan.specs.Plans.{gapsFrom, planOf, Kept, plannedColumn, plannedGap, fixed, noStops, fixedPlace}
 use Rattle.plan.specs.Places.{isSteady, allSteady, widths, placeOf}
 use Rattle.plan.proofs.Arrays.{column-planned, gap-planned}
 use Rattle.plan.proofs.Jump.{bind-when, bind-bind, known-alike, standing, standing-in, standing-here, step-quiet}

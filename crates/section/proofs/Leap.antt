@@ -18,10 +18,10 @@ use Rattle.column.specs.declared.column.Column.{Column}
 use Rattle.column.specs.declared.field.Field.{Field}
 use Rattle.column.specs.declared.types.Kind.{Kind}
 use Rattle.column.specs.declared.types.Kind.the-variants.{Fixed, Variable, Wide, Chapter, Unknown}
-use Rattle.column.specs.Types.{widthOf, variableKind, chapterKind}
-use Rattle.column.specs.Columns.{kind, width, isVariable, isChapter, isNullable, prefixSize, prefixBytes, lengthErrorOf, lengthError}
+use Rattle.column.specs.Columns.{kind, width, isVariable, isChapter, prefixSize, prefixBytes, lengthErrorOf, lengthError, isStop}
 use Rattle.column.specs.Fields.{field, bytesAt, variableAt, fieldAt}
 use Rattle.column.proofs.Laws.{prefix-variable, prefix-plain, bytes-short, bytes-fit, variable-short, variable-long, variable-bytes, field-variable, field-fixed, field-past}
+use Rattle.column.proofs.Stops.{chapter-bare, no-stop}
 use Rattle.row.specs.Presence.{noColumn, one, presenceBytes, Mark, mark, noMark, marks, present}
 use Rattle.row.specs.Rows.{Place, place, past, step, walk, opened, walked, rowEnd}
 use Rattle.row.specs.Updates.{numbered, updateBytes, carriedIn, updateOpened, updateWalked, updateEnd}
@@ -29,7 +29,7 @@ use Rattle.row.proofs.Laws.{bind-of, length-marks, present-chapter, present-alw
 use Rattle.row.proofs.Found.{opened-ok}
 use Rattle.row.proofs.UpdateLaws.{length-numbered, number-at}
 use Rattle.row.proofs.UpdateFound.{update-opened-ok}
-use Rattle.section.specs.Steps.{Step, stepTo, noStep, isStop, anyColumn, stepsFrom, tailFrom, within, lengthAt, spanAt, spanError, leap}
+use Rattle.section.specs.Steps.{Step, stepTo, noStep, anyColumn, stepsFrom, tailFrom, within, lengthAt, spanAt, spanError, leap}
 
 -- Readers one after the other.
 
@@ -273,24 +273,6 @@ leap-walk stop has s (m ∷ ms) gap p n h =
 
 -- Original rows: what is no stop is a chapter, or has a field of fixed width in every row.
 
-chapter-plain : (c : Column) → isChapter c ≡ true → (isVariable c ≡ false) × (width c ≡ 0)
-chapter-plain c = go (kind c)
-  where
-    go : (k : Kind) → chapterKind k ≡ true → (variableKind k ≡ false) × (widthOf k ≡ 0)
-    go (Fixed w) h = never (sym h)
-    go Variable h = never (sym h)
-    go Wide h = never (sym h)
-    go Chapter h = (refl, refl)
-    go Unknown h = (refl, refl)
-
-no-stop : (c : Column) → isStop c ≡ false → isChapter c ≡ false → (isNullable c ≡ false) × (isVariable c ≡ false)
-unfolding isStop
-no-stop c h x = go (isNullable c) refl (sym (rw x) ∙ h)
-  where
-    go : (t : Bool) → isNullable c ≡ t → pick t true (isVariable c) ≡ false → (isNullable c ≡ false) × (isVariable c ≡ false)
-    go true e y = never y
-    go false e y = (e, y)
-
 pub steady-row : (row : Bytes) → Steady isStop (present row)
 steady-row row m h = go (isChapter (m .column)) refl
   where
@@ -298,7 +280,7 @@ steady-row row m h = go (isChapter (m .column)) refl
         (t : Bool) → isChapter (m .column) ≡ t →
         (isVariable (m .column) ≡ false) × (one (present row m) * width (m .column) ≡ width (m .column))
     go true e =
-        let (v, w) = chapter-plain (m .column) e in
+        let (v, w) = chapter-bare (m .column) e in
         let z : 0 * width (m .column) ≡ width (m .column) = omega (arith, w) in
         (v, rw (present-chapter row (m .column) (m .bit) e) z)
     go false e =
