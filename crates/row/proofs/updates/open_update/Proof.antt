@@ -1,18 +1,16 @@
 -- The maps are whole or not; then each rule in its turn.
 -- Assumes nothing.
-use Prim.Native.Nat.{ℕ, _≤_, _<_, _+_, _*_}
-use mathlib.Core.Path.{_≡_, refl, sym, ap, _∙_}
-use mathlib.Core.Bool.{Bool, true, false}
+use Prim.Native.Nat.{ℕ, _≤_, _+_, _*_}
+use mathlib.Core.Path.{_≡_, sym, ap, _∙_}
 use mathlib.Core.List.{List}
 use native.Mathlib.Omega.{arith}
 use lib.ListN.{length, drop}
 use borrow.Author.Tests.{ltb-true, ltb-false}
-use Rattle.wire.specs.Read.{Bytes, Read, ok, bad, toldMatch}
-use Rattle.wire.specs.Bits.{mapBytes}
+use Rattle.wire.specs.Read.{ok, toldMatch}
 use Rattle.column.specs.declared.column.Column.{Column}
 use Rattle.column.specs.Layout.{columnsFrom}
 use Rattle.row.specs.Presence.{clear}
-use Rattle.row.specs.Updates.{numbered, updateBytes, chapterMarked, forceBroken, updateOpened}
+use Rattle.row.specs.Updates.{numbered, updateBytes, chapterMarked, forceBroken}
 use Rattle.row.proofs.Laws.{map-few}
 use Rattle.row.proofs.UpdateLaws.{update-short, update-chapter, force-chapter, force-rule, update-well}
 use Rattle.row.proofs.Arrays.{update-bytes}

@@ -1,13 +1,13 @@
 -- Each way out is a law of look-up in update data.
 -- Assumes nothing.
 use Prim.Native.Nat.{ℕ, _≤_, _<_, _+_, _*_, _-_}
-use mathlib.Core.Path.{_≡_, refl, sym, ap, _∙_}
-use mathlib.Core.Bool.{Bool, true, false}
+use mathlib.Core.Path.{_≡_, sym, ap, _∙_}
+use mathlib.Core.Bool.{true, false}
 use mathlib.Core.List.{List}
 use native.Mathlib.Omega.{arith}
-use lib.ListN.{length, take, drop, getD}
-use Rattle.wire.specs.Read.{Bytes, Read, ok, bad}
-use Rattle.wire.specs.Bits.{mapBytes, bitSet}
+use lib.ListN.{length, drop, getD}
+use Rattle.wire.specs.Read.{Bytes, ok}
+use Rattle.wire.specs.Bits.{bitSet}
 use Rattle.column.specs.declared.column.Column.{Column}
 use Rattle.column.specs.Columns.{isChapter}
 use Rattle.column.specs.Fields.{fieldAt, toldField}
