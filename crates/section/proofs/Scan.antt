@@ -3,34 +3,32 @@
 use Prim.Native.Nat.{ℕ, zero, suc, _+_, _*_, _-_, _<_, _≤_}
 use mathlib.Core.Path.{_≡_, refl, sym, ap, _∙_}
 use mathlib.Core.List.{List, [], _∷_, _++_, append-assoc, append-nil, map}
-use mathlib.Core.Bool.{Bool, true, false}
+use mathlib.Core.Bool.{true, false}
 use mathlib.Core.Option.{some}
 use native.Mathlib.Omega.{arith}
 use lib.ListN.{length, getD, length-append}
 use lib.Dec.{eqb}
-use borrow.Author.Tests.{eq-eqb, ne-eqb}
 use Rattle.wire.specs.declared.error.Error.{Error}
 use Rattle.wire.specs.declared.error.Input.{Input}
-use Rattle.wire.specs.Read.{Bytes, AreBytes, Read, ok, bad, _>>=_, pick, refused}
+use Rattle.wire.specs.Read.{Bytes, AreBytes, Read, ok, bad, _>>=_, refused}
 use Rattle.wire.specs.Output.{put}
-use Rattle.wire.proofs.Pieces.{ok-ok, bad-ok}
+use Rattle.wire.proofs.Pieces.{ok-ok, bad-ok, bind-unit, bind-bind}
 use Rattle.column.specs.declared.column.Column.{Column}
 use Rattle.schema.specs.Schemas.{asColumn, Schema, schema, columnsOf, childNumber}
 use Rattle.schema.specs.Table.{schemaSlot, idIn, schemaIn, schemasIn}
 use Rattle.schema.proofs.TableSays.{schemas-in-length, schemas-in-at}
 use Rattle.schema.proofs.Children.{child-found}
-use Rattle.section.specs.declared.read.RowsRead.{RowsRead}
 use Rattle.section.specs.declared.read.RowsRead.the-variants as read
-use Rattle.grammar.specs.Grammar.{Before, other, after, columnsAt, Row, entry}
+use Rattle.grammar.specs.Grammar.{Before, after, columnsAt, Row, entry}
 use Rattle.grammar.specs.Reader.{section}
-use Rattle.grammar.specs.Pending.{Pending, nothing, child-row, beforeOf, flush, close, rowsFrom}
+use Rattle.grammar.specs.Pending.{Pending, nothing, child-row, flush, close, rowsFrom}
 use Rattle.section.specs.Heads.{HeadAt, doneHead, deleteHead, dataHead, headAt, beforeIn, pendingIn}
-use Rattle.section.specs.Table.{rowNumbers, rowCount, toldRows}
+use Rattle.section.specs.Table.{rowNumbers}
 use Rattle.section.specs.Scan.{laidFrom, Scanned}
 use Rattle.section.specs.Shapes.{slotColumns}
 use Rattle.section.specs.Ways.{dataEnd}
 use Rattle.grammar.proofs.Pending.{rows-are-section}
-use Rattle.section.proofs.Turns.{resumed, pendingAfter, rowsAfter, rows-step, before-pending, HeadTold, told-done, told-delete, told-parent, told-child, told-change, head-told, id-small}
+use Rattle.section.proofs.Turns.{resumed, pendingAfter, rowsAfter, rows-step, before-pending, HeadTold, told-delete, told-parent, told-child, told-change, head-told, id-small}
 use Rattle.section.proofs.Laid.{laid-more, laid-again, length-laid}
 
 -- the columns of a schema, by the table of slots
@@ -66,14 +64,6 @@ pub record AtElement (slots : List ℕ) (n : ℕ) (s : Bytes) (entry exit : List
   pub few : rows ≤ at
   pub holds : exit ≡ laidFrom 0 (listed ++ flush (pendingIn slots child origin) []) entry
 
-bind-id : {A : Type 0} (r : Read A) → r ≡ (r >>= λ a. ok a)
-bind-id (ok a) = refl
-bind-id (bad c o i) = refl
-
-bind-bind : {A B C : Type 0} (r : Read A) (g : A → Read B) (h : B → Read C) → ((r >>= g) >>= h) ≡ (r >>= λ a. g a >>= h)
-bind-bind (ok a) g h = refl
-bind-bind (bad c p i) g h = refl
-
 -- the rows that follow, each answer changed alike
 rows-alike : (r : Read (List Row)) (f g : List Row → List Row) → ((rs : List Row) → f rs ≡ g rs) → (r >>= λ rs. ok (f rs)) ≡ (r >>= λ rs. ok (g rs))
 rows-alike (ok rs) f g e = ap (λ (x : List Row). ok x) (e rs)
@@ -89,7 +79,7 @@ at-start slots n s table h =
       nested = omega arith;
       begun = omega arith;
       listed = [];
-      same = bind-id (allRows slots n s);
+      same = sym (bind-unit (allRows slots n s));
       count = refl;
       few = omega arith;
       holds = refl;
