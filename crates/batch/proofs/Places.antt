@@ -14,7 +14,7 @@ use Rattle.wire.specs.Read.{Bytes, Read, ok, bad, _>>=_, pick, check, about, li
 use Rattle.wire.specs.Bits.{bitSet}
 use Rattle.wire.proofs.Laws.{bit-past}
 use Rattle.column.specs.declared.column.Column.{Column}
-use Rattle.column.specs.Columns.{isVariable, isChapter}
+use Rattle.column.specs.Columns.{isVariable, isChapter, isStop}
 use Rattle.column.specs.Fields.{bytesAt, variableAt}
 use Rattle.row.specs.Presence.{one, mark, present}
 use Rattle.row.specs.Rows.{Place}
@@ -23,7 +23,7 @@ use Rattle.grammar.proofs.RowErrors.{OfError, an-error, of-bind, of-check, of-o
 use Rattle.grammar.proofs.RowErrors as row
 use Rattle.plan.specs.declared.plan.Plan.{Plan}
 use Rattle.plan.specs.Packed.{unpacked, bitIn, widthIn}
-use Rattle.plan.specs.Plans.{isStop, plannedWord, plannedColumn, plannedMark, plannedGap, plannedCount, plannedMap, plannedMarked, stopsTo, fieldIn, passedVariable, passed, visit, visits, jumped, landed, unset, plannedKnown, plannedOpen, plannedAnswer, plannedLookUp, plannedRow}
+use Rattle.plan.specs.Plans.{plannedWord, plannedColumn, plannedMark, plannedGap, plannedCount, plannedMap, plannedMarked, stopsTo, fieldIn, passedVariable, passed, visit, visits, jumped, landed, unset, plannedKnown, plannedOpen, plannedAnswer, plannedLookUp, plannedRow}
 
 -- Which error can stand where.
 

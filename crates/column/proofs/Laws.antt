@@ -340,3 +340,15 @@ field-later c row other p {f} h q l =
       length-said = λ v. sym (int-front row other (f .end) p (prefixSize c) (omega (arith, prefix-variable c v)) q) ∙ t .length-said v;
       fixed = t .fixed;
     })
+
+-- a length of no bytes is allowed
+pub length-none : (c : Column) → lengthError c 0 ≡ 0
+unfolding lengthError
+length-none c = go (kind c)
+  where
+    go : (k : Kind) → lengthErrorOf k (c .maximum) 0 ≡ 0
+    go (Fixed w) = refl
+    go Variable = rw (le-leb 0 (c .maximum) (omega arith))
+    go Wide = rw (le-leb 0 (2 * c .maximum) (omega arith))
+    go Chapter = refl
+    go Unknown = refl

@@ -1,7 +1,7 @@
 -- One column: what its type, flags and maximum decide (document 01, "Rows").
 -- Assumes nothing.
 use Prim.Native.Nat.{ℕ, _*_, _%_}
-use mathlib.Core.Bool.{Bool}
+use mathlib.Core.Bool.{Bool, true, false}
 use lib.Dec.{ltb, leb, eqb}
 use Rattle.wire.specs.Errors.{codeOf}
 use Rattle.wire.specs.Read.{pick}
@@ -26,6 +26,10 @@ isChapter c = chapterKind (kind c)
 
 unfoldable pub isNullable : Column → Bool
 isNullable c = eqb (c .flags) 1
+
+-- A stop: a column that is no chapter and is nullable or of variable length. Behind it places depend on the row.
+unfoldable pub isStop : Column → Bool
+isStop c = pick (isChapter c) false (pick (isNullable c) true (isVariable c))
 
 -- the bytes of a length: one if the maximum is under 256, else four
 unfoldable pub prefixSize : Column → ℕ

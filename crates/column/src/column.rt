@@ -1,6 +1,6 @@
 // A column of a schema: its type, its flags and its maximum length; and what these decide of its fields.
 ghost use mathlib.Core.Path.{_≡_};
-ghost use Rattle.column.specs.Columns.{isVariable, isChapter, isNullable, width, prefixSize, prefixBytes, lengthError, toldLength};
+ghost use Rattle.column.specs.Columns.{isVariable, isChapter, isNullable, isStop, width, prefixSize, prefixBytes, lengthError, toldLength};
 use crate::types::ColumnType;
 use wire::error::ErrorKind;
 
@@ -43,6 +43,19 @@ impl Column {
         ensures { λ r. ⌜ r ≡ isNullable self ⌝ }
     {
         self.flags == 1
+    }
+
+    // Whether places behind the column depend on the row.
+    pub fn is_stop(self) -> bool
+        ensures { λ r. ⌜ r ≡ isStop self ⌝ }
+    {
+        if self.is_chapter() {
+            return false;
+        }
+        if self.is_nullable() {
+            return true;
+        }
+        self.is_variable()
     }
 
     // The bytes of a field of fixed width; 0 for other columns.

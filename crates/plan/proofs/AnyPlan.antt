@@ -15,7 +15,7 @@ use Rattle.wire.specs.declared.error.Input.the-variants as input
 use Rattle.wire.specs.Read.{Bytes, ok, _>>=_, pick, about}
 use Rattle.wire.proofs.Pieces.{bad-ok, bind-ok, about-ok, ok-ok}
 use Rattle.column.specs.declared.field.Field.{Field}
-use Rattle.column.specs.Columns.{isVariable, isChapter, prefixBytes}
+use Rattle.column.specs.Columns.{isVariable, isChapter, prefixBytes, isStop}
 use Rattle.column.specs.Fields.{field as bytes, bytesAt, variableAt}
 use Rattle.column.proofs.Laws.{prefix-plain, bytes-short, bytes-fit, field-variable, field-told}
 use Rattle.row.specs.Presence.{present}
@@ -23,7 +23,7 @@ use Rattle.row.specs.Rows.{Place, place, reached, field, null, chapter}
 use Rattle.row.proofs.Found.{chapter-field, null-field, field-field}
 use Rattle.plan.specs.declared.plan.Plan.{Plan}
 use Rattle.plan.specs.Packed.{unpacked, widthIn}
-use Rattle.plan.specs.Plans.{isStop, plannedWord, plannedColumn, plannedMark, plannedGap, fieldIn, passed, visit, visits, stopsTo, jumped, landed, plannedKnown, plannedOpen, plannedAnswer, plannedLookUp, FixedPlace, fixed, moving, noStops, fixedPlace}
+use Rattle.plan.specs.Plans.{plannedWord, plannedColumn, plannedMark, plannedGap, fieldIn, passed, visit, visits, stopsTo, jumped, landed, plannedKnown, plannedOpen, plannedAnswer, plannedLookUp, FixedPlace, fixed, moving, noStops, fixedPlace}
 use Rattle.plan.proofs.Arrays.{plannedField}
 
 -- What a field that is found by a number of a plan tells.

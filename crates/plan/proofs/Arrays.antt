@@ -10,13 +10,13 @@ use lib.Seq.{take-length, drop-cons}
 use Rattle.wire.specs.Read.{Bytes, Read, ok, _>>=_, pick}
 use Rattle.column.specs.declared.column.Column.{Column}
 use Rattle.column.specs.declared.field.Field.{Field}
-use Rattle.column.specs.Columns.{width, isChapter, isNullable}
+use Rattle.column.specs.Columns.{width, isChapter, isNullable, isStop}
 use Rattle.column.specs.Layout.{mostColumns}
 use Rattle.row.specs.Presence.{noColumn, one, Mark, mark, noMark, marks, bitOf, markOf, presenceBytes}
 use Rattle.row.specs.Rows.{Place, Answer, field}
 use Rattle.row.proofs.Laws.{length-marks, mark-at}
 use Rattle.plan.specs.declared.plan.Plan.{Plan}
-use Rattle.plan.specs.Plans.{isStop, gapPast, gapsFrom, gapsOf, stopsFrom, stopsBefore, bitsOf, chapterBits, planOf, Kept, plannedWord, plannedColumn, plannedMark, plannedGap, plannedList, plannedCount, plannedMap, plannedMarked, stopsTo, jumped, landed}
+use Rattle.plan.specs.Plans.{gapPast, gapsFrom, gapsOf, stopsFrom, stopsBefore, bitsOf, chapterBits, planOf, Kept, plannedWord, plannedColumn, plannedMark, plannedGap, plannedList, plannedCount, plannedMap, plannedMarked, stopsTo, jumped, landed}
 use Rattle.plan.specs.Packed.{packed, unpacked, gapIn, bitIn, widthIn, beforeIn, stopIn, markedIn, listNumbers, tabled}
 use Rattle.plan.proofs.Packed.{packed-column, packed-gap, packed-bit, packed-width, listed-before, listed-stop, listed-marked, tabled-same, laid-column, laid-list, laid-count, laid-map, laid-chapters}
 use Rattle.plan.proofs.Sizes.{gaps-small, bits-small, before-small, stops-small, map-few}

@@ -10,12 +10,12 @@ use lib.ListN.{length, getD, set, take, replicate, length-append, length-map, Li
 use lib.Seq.{take-all, ext-getD}
 use Rattle.wire.specs.Read.{pick}
 use Rattle.column.specs.declared.column.Column.{Column}
-use Rattle.column.specs.Columns.{isChapter, isNullable}
+use Rattle.column.specs.Columns.{isChapter, isNullable, isStop}
 use Rattle.column.specs.Layout.{mostColumns, padded, columnIn, columnsFrom}
 use Rattle.row.specs.Presence.{noColumn, one, nullables, Mark, marks}
 use Rattle.row.proofs.Laws.{padded-at}
 use Rattle.row.proofs.Arrays.{length-from, column-from}
-use Rattle.plan.specs.Plans.{isStop, gapPast, gapsFrom, stopsFrom, stopsBefore, chapterBits}
+use Rattle.plan.specs.Plans.{gapPast, gapsFrom, stopsFrom, stopsBefore, chapterBits}
 
 -- Padded lists.
 

@@ -11,41 +11,23 @@ use borrow.Author.Tests.{lt-ltb, leb-true, leb-false, le-leb}
 use Rattle.wire.specs.declared.error.Input.the-variants as input
 use Rattle.wire.specs.Read.{Bytes, Read, ok, bad, _>>=_, pick, check, about, sized, whole}
 use Rattle.wire.specs.Bits.{bitSet}
-use Rattle.wire.proofs.Pieces.{about-ok}
+use Rattle.wire.proofs.Pieces.{about-ok, bind-same, bind-unit, bind-bind}
 use Rattle.column.specs.declared.column.Column.{Column}
 use Rattle.column.specs.declared.field.Field.{Field}
-use Rattle.column.specs.declared.types.Kind.{Kind}
-use Rattle.column.specs.declared.types.Kind.the-variants.{Fixed, Variable, Wide, Chapter, Unknown}
-use Rattle.column.specs.Types.{widthOf, chapterKind}
-use Rattle.column.specs.Columns.{kind, width, isVariable, isChapter, isNullable}
+use Rattle.column.specs.Columns.{width, isVariable, isChapter, isNullable, isStop}
 use Rattle.column.specs.Fields.{bytesAt, variableAt, fieldAt}
 use Rattle.column.proofs.Laws.{bytes-short, bytes-fit, field-variable, field-fixed, field-past, field-told}
+use Rattle.column.proofs.Stops.{chapter-bare, no-stop}
 use Rattle.row.specs.Presence.{noColumn, one, presenceBytes, Mark, mark, marks, markOf, present, chapterPresent, clear}
 use Rattle.row.specs.Rows.{Place, place, past, reached, step, walk, arrive, opened, walked, Answer, field, null, chapter, fieldOf, columnOf, known, lookUp, lookUpRow}
 use Rattle.row.proofs.Laws.{present-chapter, present-always, step-absent}
 use Rattle.row.proofs.Found.{known-ok, opened-ok}
 use Rattle.plan.specs.declared.plan.Plan.{Plan}
 use Rattle.plan.specs.Packed.{bitIn, widthIn}
-use Rattle.plan.specs.Plans.{isStop, stopsFrom, chapterBits, planOf, Kept, plannedWord, plannedColumn, plannedMark, plannedGap, plannedMarked, fieldIn, passedVariable, passed, visit, visits, stopsTo, jumped, landed, unset, plannedKnown, plannedOpen, plannedAnswer, plannedLookUp, plannedRow}
+use Rattle.plan.specs.Plans.{stopsFrom, chapterBits, planOf, Kept, plannedWord, plannedColumn, plannedMark, plannedGap, plannedMarked, fieldIn, passedVariable, passed, visit, visits, stopsTo, jumped, landed, unset, plannedKnown, plannedOpen, plannedAnswer, plannedLookUp, plannedRow}
 use Rattle.plan.proofs.Arrays.{plannedField, stopCount, Holds, more, planned-holds, count-planned, map-planned, chapters-planned, column-planned, width-planned, mark-planned, stops-planned}
 
 -- Readers one after the other.
-
--- two go on alike where the first answers
-pub bind-when : {A B : Type 0} (r : Read A) (f g : A → Read B) → ((a : A) → r ≡ ok a → f a ≡ g a) → r >>= f ≡ r >>= g
-bind-when (ok a) f g h = h a refl
-bind-when (bad e o i) f g h = refl
-
-bind-same : {A B : Type 0} (r : Read A) (f g : A → Read B) → ((a : A) → f a ≡ g a) → r >>= f ≡ r >>= g
-bind-same r f g h = bind-when r f g (λ a _. h a)
-
-bind-unit : {A : Type 0} (r : Read A) → r >>= (λ (a : A). ok a) ≡ r
-bind-unit (ok a) = refl
-bind-unit (bad e o i) = refl
-
-pub bind-bind : {A B C : Type 0} (r : Read A) (f : A → Read B) (g : B → Read C) → (r >>= f) >>= g ≡ r >>= (λ (a : A). f a >>= g)
-bind-bind (ok a) f g = refl
-bind-bind (bad e o i) f g = refl
 
 -- four of them, grouped anew
 regroup :
@@ -59,16 +41,6 @@ regroup (bad e o i) f g h = refl
 never : {A : Type 0} → true ≡ false → A
 never h = absurd (true≢false h)
 
-chapter-width : (c : Column) → isChapter c ≡ true → width c ≡ 0
-chapter-width c = go (kind c)
-  where
-    go : (k : Kind) → chapterKind k ≡ true → widthOf k ≡ 0
-    go (Fixed w) h = never (sym h)
-    go Variable h = refl
-    go Wide h = refl
-    go Chapter h = refl
-    go Unknown h = refl
-
 module _ (c : Column) where
   stop-plain : isStop c ≡ true → isChapter c ≡ false
   unfolding isStop
@@ -77,15 +49,6 @@ module _ (c : Column) where
       go : (t : Bool) → isChapter c ≡ t → pick t false (pick (isNullable c) true (isVariable c)) ≡ true → isChapter c ≡ false
       go true e x = never (sym x)
       go false e x = e
-
-  -- no stop and no chapter: not nullable, of fixed width
-  no-stop : isStop c ≡ false → isChapter c ≡ false → (isNullable c ≡ false) × (isVariable c ≡ false)
-  unfolding isStop
-  no-stop h x = go (isNullable c) refl (sym (rw x) ∙ h)
-    where
-      go : (t : Bool) → isNullable c ≡ t → pick t true (isVariable c) ≡ false → (isNullable c ≡ false) × (isVariable c ≡ false)
-      go true e y = never y
-      go false e y = (e, y)
 
 -- a stop of fixed type is present where its bit is set
 stop-present : (row : Bytes) (c : Column) (b : ℕ) → isStop c ≡ true → isVariable c ≡ false → present row (mark c b) ≡ bitSet row b
@@ -149,7 +112,7 @@ module _ (row : Bytes) (p n : ℕ) where
   module _ (c : Column) (b : ℕ) where
     step-missing : present row (mark c b) ≡ false → standing row p n >>= step (present row) row (mark c b) ≡ standing row p n
     step-missing e =
-        bind-same (standing row p n) (step (present row) row (mark c b)) (λ (v : Place). ok v) (λ v. step-absent (present row) row (mark c b) v e)
+        bind-same (standing row p n) (step (present row) row (mark c b)) (λ (v : Place). ok v) (λ v _. step-absent (present row) row (mark c b) v e)
         ∙ bind-unit (standing row p n)
 
     step-there :
@@ -157,7 +120,7 @@ module _ (row : Bytes) (p n : ℕ) where
         standing row p n >>= step (present row) row (mark c b) ≡ fieldAt c row p >>= (λ (f : Field). ok (past (place p n) f))
     step-there e =
         bind-same (standing row p n) (step (present row) row (mark c b)) (λ (v : Place). fieldAt c row (v .at) >>= (λ (f : Field). ok (past v f)))
-        (λ v. step-present (present row) row (mark c b) v e)
+        (λ v _. step-present (present row) row (mark c b) v e)
         ∙ from-standing c (λ (v : Place) (f : Field). ok (past v f))
 
     -- a column that is no stop moves the position by its width; a chapter's is 0
@@ -166,7 +129,7 @@ module _ (row : Bytes) (p n : ℕ) where
       where
         go : (t : Bool) → isChapter c ≡ t → standing row p n >>= step (present row) row (mark c b) ≡ standing row (p + width c) n
         go true e =
-            let z : p ≡ p + width c = omega (arith, chapter-width c e) in
+            let z : p ≡ p + width c = omega (arith, chapter-bare c e .1) in
             step-missing (present-chapter row c b e) ∙ ap (λ (q : ℕ). standing row q n) z
         go false e =
             let (x, y) = no-stop c h e in
@@ -296,7 +259,7 @@ module _ (p : Plan) (row : Bytes) (k : ℕ) where
       go true s r y =
           ap (λ (q : Read Place). q >>= rest) (visit-stop c i g b w (omega arith) s ec eg eb ew)
           ∙ bind-bind (visit p row k i w) (behind row) rest
-          ∙ bind-same (visit p row k i w) _ _ (λ v. r 0 v y)
+          ∙ bind-same (visit p row k i w) _ _ (λ v _. r 0 v y)
           ∙ sym (bind-bind (visit p row k i w) (visits p row k (take (stopCount cs j) (stopsFrom (suc i) cs))) landing)
       go false s r y =
           let z : w .at + g + width c ≡ w .at + (g + width c) = omega arith in
@@ -318,7 +281,7 @@ unset-alike row (m ∷ ms) = go (isChapter (m .column)) (isNullable (m .column))
     go true true r =
         let z : m .bit / 8 ≡ 0 + m .bit / 8 = omega arith in
         ap (λ (o : ℕ). check (not (bitSet row (m .bit))) 12 o >>= (λ _. unset row (chapterBits ms))) z
-        ∙ bind-same (check (not (bitSet row (m .bit))) 12 (0 + m .bit / 8)) _ _ (λ _. r)
+        ∙ bind-same (check (not (bitSet row (m .bit))) 12 (0 + m .bit / 8)) _ _ (λ _ _. r)
     go true false r = r
     go false n r = r
 
@@ -347,7 +310,7 @@ module _ (cs : List Column) (kept : Kept cs) where
     unfolding jumped fieldOf walked
     field-alike x =
         let l = lands (planOf cs) row k cs 0 (presenceBytes cs) 0 k (place 0 0) (planned-holds cs kept) (omega arith) known x in
-        bind-same (jumped (planOf cs) row k) (landed (plannedWord (planOf cs) k) row) (arrive (plannedColumn (planOf cs) k) row) landed-alike
+        bind-same (jumped (planOf cs) row k) (landed (plannedWord (planOf cs) k) row) (arrive (plannedColumn (planOf cs) k) row) (λ w _. landed-alike w)
         ∙ bind-bind (visits (planOf cs) row k (stopsTo (planOf cs) k) (place 0 0)) (λ (w : Place). ok (place (w .at + plannedGap (planOf cs) k) (w .prefixes)))
         (arrive (plannedColumn (planOf cs) k) row)
         ∙ ap (λ (l : List ℕ). visits (planOf cs) row k l (place 0 0) >>= landing (planOf cs) row k) (stops-planned cs kept k known)
@@ -383,10 +346,10 @@ unfolding plannedLookUp lookUp
 jump cs row k kept =
     ap (λ (r : Read (Unit {0})). r >>= (λ _. about input.Row (plannedOpen (planOf cs) row) >>= (λ _. about input.Row (plannedAnswer (planOf cs) row k))))
     (known-alike cs kept k)
-    ∙ bind-when (known cs k) _ _
+    ∙ bind-same (known cs k) _ _
     (λ u e.
     ap (λ (r : Read ℕ). about input.Row r >>= (λ _. about input.Row (plannedAnswer (planOf cs) row k))) (opens-alike cs kept row)
-    ∙ bind-when (about input.Row (opened cs row 0)) _ _
+    ∙ bind-same (about input.Row (opened cs row 0)) _ _
     (λ s f.
     let (x, y, z) = opened-ok cs row 0 s (about-ok input.Row (opened cs row 0) s f) in
     ap (about input.Row) (answer-alike cs kept row k (known-ok cs k u e) (omega arith))))
@@ -394,4 +357,4 @@ jump cs row k kept =
 -- in any row
 pub jump-row : (cs : List Column) (row : Bytes) (k : ℕ) → Kept cs → plannedRow (planOf cs) row k ≡ lookUpRow cs row k
 unfolding plannedRow lookUpRow
-jump-row cs row k kept = bind-same (about input.Row (sized row)) _ _ (λ _. jump cs row k kept)
+jump-row cs row k kept = bind-same (about input.Row (sized row)) _ _ (λ _ _. jump cs row k kept)

@@ -1,12 +1,11 @@
 -- The ways of a look-up through a plan, for the functions' proofs.
 -- Assumes nothing.
 use Prim.Native.Nat.{ℕ, zero, suc, _+_, _*_, _-_, _/_, _%_, _≤_, _<_}
-use mathlib.Core.List.{List, [], _∷_}
-use mathlib.Core.Bool.{Bool, true, false, true≢false}
+use mathlib.Core.Bool.{Bool, true, false}
 use mathlib.Core.Path.{_≡_, refl, sym, ap, _∙_}
 use native.Mathlib.Omega.{arith}
-use lib.ListN.{length, getD}
-use lib.Dec.{ltb, leb, eqb}
+use lib.ListN.{length}
+use lib.Dec.{leb, eqb}
 use borrow.Author.Tests.{lt-ltb, le-ltb, le-leb, eqb-true, eqb-false}
 use Rattle.wire.specs.declared.error.Input.{Input}
 use Rattle.wire.specs.declared.error.Input.the-variants as input
@@ -15,10 +14,9 @@ use Rattle.wire.specs.Bits.{bitSet}
 use Rattle.wire.specs.Integers.{readInt}
 use Rattle.column.specs.declared.column.Column.{Column}
 use Rattle.column.specs.declared.field.Field.{Field}
-use Rattle.column.specs.declared.types.Kind.{Kind}
-use Rattle.column.specs.declared.types.Kind.the-variants.{Fixed, Variable, Wide, Chapter, Unknown}
-use Rattle.column.specs.Types.{types, kindIn, kindOf, variableKind, chapterKind}
-use Rattle.column.specs.Columns.{kind, isChapter, isNullable, isVariable, prefixSize, lengthError}
+use Rattle.column.specs.declared.types.Kind.the-variants.{Variable, Wide}
+use Rattle.column.specs.Types.{types, kindIn, kindOf}
+use Rattle.column.specs.Columns.{kind, isVariable, prefixSize, lengthError, isStop}
 use Rattle.column.specs.Fields.{field as bytes, bytesAt, variableAt}
 use Rattle.column.proofs.Laws.{int-inside, wide-code, wide-over, length-told, prefix-variable, bytes-short, bytes-fit, variable-refused, variable-long, variable-bytes, field-variable, field-told}
 use Rattle.row.specs.Presence.{one, mark, present}
@@ -27,7 +25,7 @@ use Rattle.row.specs.declared.rows.WalkRead.{WalkRead}
 use Rattle.row.specs.declared.rows.WalkRead.the-variants as walk
 use Rattle.plan.specs.declared.plan.Plan.{Plan}
 use Rattle.plan.specs.Packed.{unpacked, bitIn, widthIn, tabled}
-use Rattle.plan.specs.Plans.{isStop, plannedWord, plannedColumn, plannedGap, passedVariable, passed, visit, visits, unset}
+use Rattle.plan.specs.Plans.{plannedWord, plannedColumn, plannedGap, passedVariable, passed, visit, visits, unset}
 use Rattle.plan.specs.Lent.{Near, endOf, lengthOf}
 use Rattle.plan.proofs.Packed.{tabled-end, tabled-next}
 
@@ -44,35 +42,6 @@ kind-text = refl
 small : (t : Bool) → t ≡ eqb (pick t 0 14) 0
 small true = refl
 small false = refl
-
--- A stop, or not.
-
-module _ (c : Column) where
-  pub stop-chapter : isChapter c ≡ true → isStop c ≡ false
-  unfolding isStop
-  stop-chapter e = rw e
-
-  pub stop-nullable : isChapter c ≡ false → isNullable c ≡ true → isStop c ≡ true
-  unfolding isStop
-  stop-nullable e n = rw (e, n)
-
-  pub stop-plain : isChapter c ≡ false → isNullable c ≡ false → isStop c ≡ isVariable c
-  unfolding isStop
-  stop-plain e n = rw (e, n)
-
-  -- every column of variable length is one
-  pub stop-variable : isVariable c ≡ true → isStop c ≡ true
-  unfolding isStop
-  stop-variable v = go (kind c) (isNullable c) v
-    where
-      go : (k : Kind) (n : Bool) → variableKind k ≡ true → pick (chapterKind k) false (pick n true (variableKind k)) ≡ true
-      go (Fixed w) n e = absurd (true≢false (sym e))
-      go Variable true e = refl
-      go Variable false e = refl
-      go Wide true e = refl
-      go Wide false e = refl
-      go Chapter n e = absurd (true≢false (sym e))
-      go Unknown n e = absurd (true≢false (sym e))
 
 -- Fields of variable length.
 

@@ -2,42 +2,18 @@
 -- Assumes nothing.
 use Prim.Native.Nat.{ℕ, zero, suc, _+_, _*_, _≤_}
 use mathlib.Core.List.{List, [], _∷_, map}
-use mathlib.Core.Bool.{Bool, true, false, true≢false}
-use mathlib.Core.Path.{_≡_, refl, sym, ap}
+use mathlib.Core.Bool.{Bool, true, false}
+use mathlib.Core.Path.{_≡_, refl, ap}
 use native.Mathlib.Omega.{arith}
 use lib.ListN.{length, getD}
-use lib.Dec.{ltb, leb, eqb}
-use borrow.Author.Tests.{leb-true}
+use lib.Dec.{ltb}
 use Rattle.wire.specs.Read.{pick}
 use Rattle.wire.specs.Bits.{mapBytes}
 use Rattle.column.specs.declared.column.Column.{Column}
-use Rattle.column.specs.Types.{Entry, types, kindIn, kindOf, widthOf}
-use Rattle.column.specs.Columns.{width, isVariable, isChapter, isNullable, prefixSize, prefixBytes}
+use Rattle.column.specs.Columns.{width, isVariable, isChapter, isNullable, prefixSize, prefixBytes, isStop}
+use Rattle.column.proofs.Stops.{width-few}
 use Rattle.row.specs.Presence.{one, nullables, presenceBytes, Mark, marks}
-use Rattle.plan.specs.Plans.{isStop, gapPast, gapsFrom, stopsFrom, stopsBefore}
-
--- no type of a table is wider than 16 bytes
-narrow : List Entry → Bool
-narrow [] = true
-narrow (e ∷ es) = pick (leb (widthOf (e .kind)) 16) (narrow es) false
-
--- so none that is found in it is
-narrow-in : (es : List Entry) (code : ℕ) → narrow es ≡ true → widthOf (kindIn es code) ≤ 16
-unfolding kindIn narrow
-narrow-in [] code h = omega arith
-narrow-in (e ∷ es) code h = go (leb (widthOf (e .kind)) 16) refl h (eqb code (e .code)) (narrow-in es code)
-  where
-    go :
-        (t : Bool) → leb (widthOf (e .kind)) 16 ≡ t → pick t (narrow es) false ≡ true → (s : Bool) → (narrow es ≡ true → widthOf (kindIn es code) ≤ 16) →
-        widthOf (pick s (e .kind) (kindIn es code)) ≤ 16
-    go true x y true r = leb-true _ _ x
-    go true x y false r = r y
-    go false x y s r = absurd (true≢false (sym y))
-
--- the width of a column
-pub width-few : (c : Column) → width c ≤ 16
-unfolding kindOf types narrow
-width-few c = narrow-in types (c .code) refl
+use Rattle.plan.specs.Plans.{gapPast, gapsFrom, stopsFrom, stopsBefore}
 
 -- the prefix of a column
 pub prefix-few : (c : Column) → prefixBytes c ≤ 4

@@ -11,17 +11,13 @@ use Rattle.wire.specs.Read.{Bytes, Read, ok, _>>=_, pick, check, about, sized, 
 use Rattle.wire.specs.Bits.{bitSet}
 use Rattle.column.specs.declared.column.Column.{Column}
 use Rattle.column.specs.declared.field.Field.{Field}
-use Rattle.column.specs.Columns.{width, isVariable, isChapter, isNullable, prefixBytes}
+use Rattle.column.specs.Columns.{width, isVariable, isChapter, isNullable, prefixBytes, isStop}
 use Rattle.column.specs.Fields.{bytesAt, variableAt}
 use Rattle.column.specs.Layout.{mostColumns}
 use Rattle.row.specs.Presence.{noColumn, one, presenceBytes, Mark, mark, marks, present}
 use Rattle.row.specs.Rows.{Place, place, past, reached, Answer, field, null, chapter}
 use Rattle.plan.specs.declared.plan.Plan.{Plan}
 use Rattle.plan.specs.Packed.{packed, unpacked, gapIn, bitIn, widthIn, beforeIn, stopIn, markedIn, listNumbers, tabled, laid}
-
--- A stop: a column that is no chapter and is nullable or of variable length. Behind it places depend on the row.
-unfoldable pub isStop : Column → Bool
-isStop c = pick (isChapter c) false (pick (isNullable c) true (isVariable c))
 
 -- the bytes since the end of the last stop, behind a column: none behind a stop, else this column's more
 abbrev pub gapPast : Column → ℕ → ℕ

@@ -6,7 +6,6 @@ ghost use Rattle.plan.specs.Lent.{lent};
 ghost use Rattle.plan.specs.Told.{toldPlace};
 use crate::column_in;
 use crate::gap_in;
-use crate::look::is_stop;
 use crate::plan::Plan;
 use wire::error::Error;
 use wire::error::ErrorKind;
@@ -27,7 +26,7 @@ fn no_stops(plan: &[usize; 131], k: usize) -> bool
 {
     let mut i = k;
     while 0 < i {
-        if is_stop(column_in(plan[i - 1])) {
+        if column_in(plan[i - 1]).is_stop() {
             return false;
         }
         i -= 1;

@@ -16,7 +16,7 @@ ghost use Rattle.row.specs.declared.rows.LookUp.the-variants as look;
 ghost use Rattle.row.specs.Parts.{partOf};
 ghost use Rattle.row.specs.Told.{toldWalk, toldLookUp};
 ghost use Rattle.plan.specs.Packed.{stopIn, markedIn, tabled};
-ghost use Rattle.plan.specs.Plans.{isStop, plannedList, fieldIn, passedVariable, visit, visits, jumped, unset, plannedOpen, plannedAnswer, plannedRow};
+ghost use Rattle.plan.specs.Plans.{plannedList, fieldIn, passedVariable, visit, visits, jumped, unset, plannedOpen, plannedAnswer, plannedRow};
 ghost use Rattle.plan.specs.Handles.{openedRow, countsOpened, handled};
 ghost use Rattle.plan.specs.Lent.{lent, Near, Small, Lies, endOf, lengthOf, foundIn, asked, startChecked};
 use crate::bit_in;
@@ -46,19 +46,6 @@ use wire::lesser;
 
 // The start of a row that was not opened: more than any row has.
 pub const NOT_OPENED: usize = 18_446_744_073_709_551_615;
-
-// Whether places behind a column depend on the row.
-pub fn is_stop(column: Column) -> bool
-    ensures { λ r. ⌜ r ≡ isStop column ⌝ }
-{
-    if column.is_chapter() {
-        return false;
-    }
-    if column.is_nullable() {
-        return true;
-    }
-    column.is_variable()
-}
 
 // Whether a field of a column of variable length may have this length.
 fn allows(column: Column, length: usize) -> bool
@@ -174,7 +161,7 @@ fn visit(
         if column.is_variable() {
             return pass_variable(column, bit_in(word), row, at + gap_in(word), prefixes);
         }
-        let stop = is_stop(column);
+        let stop = column.is_stop();
         if stop {
             return WalkRead::At {
                 position: at + gap_in(word) + width_in(word) * one(is_set(row, bit_in(word))),

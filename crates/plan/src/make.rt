@@ -9,12 +9,11 @@ ghost use Rattle.column.specs.Layout.{padded, columnsFrom, columnsIn};
 ghost use Rattle.row.specs.Presence.{nullables, marks};
 ghost use Rattle.plan.specs.Packed.{packed, listed, columnNumbers, listNumbers, laid};
 ghost use Rattle.plan.specs.Plans.{gapPast, gapsFrom, stopsFrom, stopsBefore, bitsOf, chapterBits, planOf};
-use crate::column_of;
-use crate::look::is_stop;
 use crate::one;
 use crate::plan::Plan;
 use column::column::Column;
 use column::columns::Columns;
+use column::columns::column_of;
 use wire::bits::map_bytes;
 use wire::integer::wide;
 use wire::lesser;
@@ -63,7 +62,7 @@ fn gap_past(column: Column, gap: usize) -> usize
     requires { ⌜ gap < 65536 ⌝ }
     ensures { λ r. ⌜ (r ≡ gapPast column gap) × (r ≤ gap + 16) ⌝ }
 {
-    if is_stop(column) {
+    if column.is_stop() {
         return 0;
     }
     gap + column.width()
@@ -132,7 +131,7 @@ fn before_of<'a>(
     while i < n {
         let column = column_of(codes, flags, maxima, i);
         before[i] = stops as u8;
-        stops += one(is_stop(column));
+        stops += one(column.is_stop());
         i += 1;
     }
     before
@@ -153,7 +152,7 @@ fn stops_of<'a>(
     let mut i = 0;
     while i < n {
         let column = column_of(codes, flags, maxima, i);
-        if is_stop(column) {
+        if column.is_stop() {
             stops[count] = i as u8;
             count += 1;
             i += 1;

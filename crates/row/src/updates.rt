@@ -12,10 +12,10 @@ ghost use Rattle.row.specs.Rows.{place, walk};
 ghost use Rattle.row.specs.Updates.{numbered, chapterMarked, forceBroken, carried, updateOpened, updateEnd, lookUpdate, lookUpdateRow};
 ghost use Rattle.row.specs.declared.updates.UpdateLookUp.the-variants as look;
 ghost use Rattle.row.specs.Told.{toldWalk, toldUpdate};
-use crate::column_of;
 use crate::rows::WalkRead;
 use column::column::Column;
 use column::columns::Columns;
+use column::columns::column_of;
 use column::field::Field;
 use column::field::FieldRead;
 use column::field::field_at;
@@ -65,7 +65,7 @@ pub fn breaks_force(column: Column, i: usize, update: &[u8], force: &[u8]) -> bo
 }
 
 // Whether update data hold a field of column `i`.
-pub fn is_carried(column: Column, i: usize, update: &[u8], force: &[u8]) -> bool
+fn is_carried(column: Column, i: usize, update: &[u8], force: &[u8]) -> bool
     ensures { λ r. ⌜ r ≡ carried (now (update .entry)) (now (force .entry)) (mark column i) ⌝ }
 {
     if is_set(update, i) {

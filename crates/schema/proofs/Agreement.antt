@@ -10,7 +10,7 @@ use lib.Seq.{drop-at}
 use lib.Dec.{leb}
 use borrow.Author.Tests.{leb-true, leb-false, le-leb, lt-leb}
 use Rattle.wire.specs.Read.{Bytes, AreBytes, Read, ok, bad, _>>=_, check, sized}
-use Rattle.wire.proofs.Pieces.{ok-ok, bind-ok, bytes-drop}
+use Rattle.wire.proofs.Pieces.{ok-ok, bind-ok, bytes-drop, bind-same, bind-bind}
 use Rattle.column.specs.declared.types.Kind.{Kind}
 use Rattle.column.specs.declared.types.Kind.the-variants.{Fixed, Variable, Wide, Chapter, Unknown}
 use Rattle.column.specs.Types.{kindOf}
@@ -30,17 +30,6 @@ use Rattle.schema.proofs.Laid.{Fits, length-lay}
 use Rattle.schema.proofs.TableSays.{lay-ids, table-schemas, ids-column, ids-block}
 
 -- Two readings are the same where their parts are.
-
--- after the same reading
-bind-same :
-    {A B : Type 0} (r : Read A) (g h : A → Read B) → ((a : A) → r ≡ ok a → g a ≡ h a) → (r >>= g) ≡ (r >>= h)
-bind-same (ok a) g h e = e a refl
-bind-same (bad c p i) g h e = refl
-
--- two readings and then a last one
-bind-bind : {A B C : Type 0} (r : Read A) (g : A → Read B) (h : B → Read C) → ((r >>= g) >>= h) ≡ (r >>= λ a. g a >>= h)
-bind-bind (ok a) g h = refl
-bind-bind (bad c p i) g h = refl
 
 -- after the same test
 check-same : {B : Type 0} (t : Bool) (c p : ℕ) (x y : Read B) → (t ≡ true → x ≡ y) → (check t c p >>= λ _. x) ≡ (check t c p >>= λ _. y)

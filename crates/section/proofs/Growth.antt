@@ -14,30 +14,16 @@ use lib.Seq.{take-all, getD-set-same, getD-set-other, getD-append-seam}
 use Rattle.wire.specs.Read.{pick}
 use Rattle.wire.specs.Bits.{mapBytes}
 use Rattle.column.specs.declared.column.Column.{Column}
-use Rattle.column.specs.Columns.{width, isVariable, isChapter, isNullable}
+use Rattle.column.specs.Columns.{width, isChapter, isNullable, isStop}
+use Rattle.column.proofs.Stops.{width-few}
 use Rattle.row.specs.Presence.{noColumn, one, presenceBytes, Mark, mark, noMark, marks, bitOf}
 use Rattle.row.proofs.Laws.{bit-zero, bit-next, bit-all, length-marks, mark-at, map-few}
 use Rattle.schema.specs.Schemas.{entry, asColumn, Schema, schema, columnCount}
 use Rattle.schema.specs.Table.{startIn, countIn, schemaSlot, entryIn, entriesIn, schemaIn, schemasIn}
 use Rattle.schema.proofs.TableSays.{entries-length, entries-at, schemas-in-length, schemas-in-at}
-use Rattle.section.specs.Steps.{Step, stepTo, noStep, isStop, stepsFrom, tailFrom}
+use Rattle.section.specs.Steps.{Step, stepTo, noStep, stepsFrom, tailFrom}
 use Rattle.section.specs.Shapes.{wordOf, formOf, firstIn, stepsIn, mapIn, tailIn, markedIn, chaptersIn, markedCount, chapterCount, Says, SayAll, SaysColumn, updateWords, slotColumns, rowSteps, Formed, Sound, Shaped, Added, AllUpdates, AllForms}
-use Rattle.section.proofs.Words.{width-few, word-column, word-gap, word-bit, word-width, form-first, form-steps, form-map, form-tail, form-marked, form-chapters}
-
--- A stop, or not.
-
-module _ (c : Column) where
-  pub stop-chapter : isChapter c ≡ true → isStop c ≡ false
-  unfolding isStop
-  stop-chapter e = rw e
-
-  pub stop-nullable : isChapter c ≡ false → isNullable c ≡ true → isStop c ≡ true
-  unfolding isStop
-  stop-nullable e n = rw (e, n)
-
-  pub stop-plain : isChapter c ≡ false → isNullable c ≡ false → isStop c ≡ isVariable c
-  unfolding isStop
-  stop-plain e n = rw (e, n)
+use Rattle.section.proofs.Words.{word-column, word-gap, word-bit, word-width, form-first, form-steps, form-map, form-tail, form-marked, form-chapters}
 
 -- One column more.
 

@@ -1,7 +1,7 @@
 -- The leap: going over row data by steps ends where the walk over its columns ends, with the same error.
 -- Assumes nothing.
 use Prim.Native.Nat.{ℕ, zero, suc, _+_, _*_, _≤_, _<_}
-use mathlib.Core.List.{List, [], _∷_, map}
+use mathlib.Core.List.{List, [], _∷_}
 use mathlib.Core.Bool.{Bool, true, false, true≢false}
 use mathlib.Core.Path.{_≡_, refl, sym, ap, _∙_}
 use native.Mathlib.Numerals.{add-one}
@@ -14,14 +14,15 @@ use Rattle.wire.specs.declared.error.Input.the-variants as input
 use Rattle.wire.specs.Read.{Bytes, Read, ok, bad, _>>=_, pick}
 use Rattle.wire.specs.Integers.{intAt}
 use Rattle.wire.proofs.Laws.{int-fits}
+use Rattle.wire.proofs.Pieces.{bind-same, bind-unit, bind-bind}
 use Rattle.column.specs.declared.column.Column.{Column}
 use Rattle.column.specs.declared.field.Field.{Field}
 use Rattle.column.specs.declared.types.Kind.{Kind}
 use Rattle.column.specs.declared.types.Kind.the-variants.{Fixed, Variable, Wide, Chapter, Unknown}
-use Rattle.column.specs.Types.{widthOf, variableKind, chapterKind}
-use Rattle.column.specs.Columns.{kind, width, isVariable, isChapter, isNullable, prefixSize, prefixBytes, lengthErrorOf, lengthError}
+use Rattle.column.specs.Columns.{kind, width, isVariable, isChapter, prefixSize, prefixBytes, lengthErrorOf, lengthError, isStop}
 use Rattle.column.specs.Fields.{field, bytesAt, variableAt, fieldAt}
-use Rattle.column.proofs.Laws.{prefix-variable, prefix-plain, bytes-short, bytes-fit, variable-short, variable-long, variable-bytes, field-variable, field-fixed, field-past}
+use Rattle.column.proofs.Laws.{prefix-variable, prefix-plain, bytes-short, bytes-fit, variable-short, variable-long, variable-bytes, field-variable, field-fixed, field-past, length-none}
+use Rattle.column.proofs.Stops.{chapter-bare, no-stop}
 use Rattle.row.specs.Presence.{noColumn, one, presenceBytes, Mark, mark, noMark, marks, present}
 use Rattle.row.specs.Rows.{Place, place, past, step, walk, opened, walked, rowEnd}
 use Rattle.row.specs.Updates.{numbered, updateBytes, carriedIn, updateOpened, updateWalked, updateEnd}
@@ -29,21 +30,7 @@ use Rattle.row.proofs.Laws.{bind-of, length-marks, present-chapter, present-alw
 use Rattle.row.proofs.Found.{opened-ok}
 use Rattle.row.proofs.UpdateLaws.{length-numbered, number-at}
 use Rattle.row.proofs.UpdateFound.{update-opened-ok}
-use Rattle.section.specs.Steps.{Step, stepTo, noStep, isStop, anyColumn, stepsFrom, tailFrom, within, lengthAt, spanAt, spanError, leap}
-
--- Readers one after the other.
-
-bind-same : {A B : Type 0} (r : Read A) (f g : A → Read B) → ((a : A) → f a ≡ g a) → r >>= f ≡ r >>= g
-bind-same (ok a) f g h = h a
-bind-same (bad e o i) f g h = refl
-
-bind-unit : {A : Type 0} (r : Read A) → r >>= (λ (a : A). ok a) ≡ r
-bind-unit (ok a) = refl
-bind-unit (bad e o i) = refl
-
-bind-bind : {A B C : Type 0} (r : Read A) (f : A → Read B) (g : B → Read C) → (r >>= f) >>= g ≡ r >>= (λ (a : A). f a >>= g)
-bind-bind (ok a) f g = refl
-bind-bind (bad e o i) f g = refl
+use Rattle.section.specs.Steps.{Step, stepTo, noStep, anyColumn, stepsFrom, tailFrom, within, lengthAt, spanAt, spanError, leap}
 
 never : {A : Type 0} → true ≡ false → A
 never h = absurd (true≢false h)
@@ -60,18 +47,6 @@ module _ (s : Bytes) (p : ℕ) where
   within-past h = rw (lt-leb p (length s) h)
 
 -- The bytes of a field and the error of its length, by the column.
-
--- a length of 0 is always allowed
-length-none : (c : Column) → lengthError c 0 ≡ 0
-unfolding lengthError
-length-none c = go (kind c)
-  where
-    go : (k : Kind) → lengthErrorOf k (c .maximum) 0 ≡ 0
-    go (Fixed w) = refl
-    go Variable = rw (le-leb 0 (c .maximum) (omega arith))
-    go Wide = rw (le-leb 0 (2 * c .maximum) (omega arith))
-    go Chapter = refl
-    go Unknown = refl
 
 module _ (c : Column) (s : Bytes) (p : ℕ) where
   module _ (v : isVariable c ≡ false) where
@@ -181,7 +156,7 @@ module _ (has : Mark → Bool) (s : Bytes) (m : Mark) (p n : ℕ) (g : Place →
   leads = within s p >>= (λ (q : ℕ). step has s m (place q n) >>= g)
 
   leads-absent : has m ≡ false → leads ≡ within s p >>= (λ (q : ℕ). g (place q n))
-  leads-absent e = bind-same (within s p) _ _ (λ q. bind-of g (step-absent has s m (place q n) e))
+  leads-absent e = bind-same (within s p) _ _ (λ q _. bind-of g (step-absent has s m (place q n) e))
 
   step-present :
       (q : ℕ) → has m ≡ true → step has s m (place q n) >>= g ≡ fieldAt (m .column) s q >>= (λ (f : Field). g (past (place q n) f))
@@ -195,7 +170,7 @@ module _ (has : Mark → Bool) (s : Bytes) (m : Mark) (p n : ℕ) (g : Place →
       (within s (p + spanAt (m .column) s p) >>= (λ (q : ℕ). g (place q (n + one (isVariable (m .column))))))
       (bad (spanError (m .column) s p) p input.Single)
   leads-present e =
-      bind-same (within s p) _ (λ (q : ℕ). fieldAt (m .column) s q >>= (λ (f : Field). g (past (place q n) f))) (λ q. step-present q e)
+      bind-same (within s p) _ (λ (q : ℕ). fieldAt (m .column) s q >>= (λ (f : Field). g (past (place q n) f))) (λ q _. step-present q e)
       ∙ from-within (m .column) s p (λ (q : ℕ) (f : Field). g (past (place q n) f))
       ∙ field-leads (m .column) s p n g
 
@@ -238,7 +213,7 @@ unfolding leap stepsFrom tailFrom walk
 leap-walk stop has s [] gap p n h = sym (bind-unit (within s (p + gap)))
 leap-walk stop has s (m ∷ ms) gap p n h =
     go (stop (m .column)) refl (λ g q k. leap-walk stop has s ms g q k h)
-    ∙ sym (bind-same (within s (p + gap)) _ (λ (q : ℕ). step has s m (place q n) >>= ending has s ms) (λ q. ending-next has s m ms (place q n)))
+    ∙ sym (bind-same (within s (p + gap)) _ (λ (q : ℕ). step has s m (place q n) >>= ending has s ms) (λ q _. ending-next has s m ms (place q n)))
   where
     go :
         (t : Bool) → stop (m .column) ≡ t →
@@ -273,24 +248,6 @@ leap-walk stop has s (m ∷ ms) gap p n h =
 
 -- Original rows: what is no stop is a chapter, or has a field of fixed width in every row.
 
-chapter-plain : (c : Column) → isChapter c ≡ true → (isVariable c ≡ false) × (width c ≡ 0)
-chapter-plain c = go (kind c)
-  where
-    go : (k : Kind) → chapterKind k ≡ true → (variableKind k ≡ false) × (widthOf k ≡ 0)
-    go (Fixed w) h = never (sym h)
-    go Variable h = never (sym h)
-    go Wide h = never (sym h)
-    go Chapter h = (refl, refl)
-    go Unknown h = (refl, refl)
-
-no-stop : (c : Column) → isStop c ≡ false → isChapter c ≡ false → (isNullable c ≡ false) × (isVariable c ≡ false)
-unfolding isStop
-no-stop c h x = go (isNullable c) refl (sym (rw x) ∙ h)
-  where
-    go : (t : Bool) → isNullable c ≡ t → pick t true (isVariable c) ≡ false → (isNullable c ≡ false) × (isVariable c ≡ false)
-    go true e y = never y
-    go false e y = (e, y)
-
 pub steady-row : (row : Bytes) → Steady isStop (present row)
 steady-row row m h = go (isChapter (m .column)) refl
   where
@@ -298,7 +255,7 @@ steady-row row m h = go (isChapter (m .column)) refl
         (t : Bool) → isChapter (m .column) ≡ t →
         (isVariable (m .column) ≡ false) × (one (present row m) * width (m .column) ≡ width (m .column))
     go true e =
-        let (v, w) = chapter-plain (m .column) e in
+        let (v, w) = chapter-bare (m .column) e in
         let z : 0 * width (m .column) ≡ width (m .column) = omega (arith, w) in
         (v, rw (present-chapter row (m .column) (m .bit) e) z)
     go false e =
@@ -323,11 +280,6 @@ original-ends cs s at d h =
 
 pub steady-update : (has : Mark → Bool) → Steady anyColumn has
 steady-update has m h = never h
-
-pub steps-any : (ms : List Mark) → stepsFrom anyColumn 0 ms ≡ map (stepTo 0) ms
-unfolding stepsFrom
-steps-any [] = refl
-steps-any (m ∷ ms) = ap (λ (ts : List Step). stepTo 0 m ∷ ts) (steps-any ms)
 
 pub tail-any : (ms : List Mark) → tailFrom anyColumn 0 ms ≡ 0
 unfolding tailFrom
@@ -427,17 +379,3 @@ module _ (has : Mark → Bool) (s : Bytes) (ts : List Step) (tail p i : ℕ) whe
     pub leap-error : has (stepAt .mark) ≡ true → (stepError ≡ 0 → ⊥) → leap has s (drop i ts) tail p ≡ bad stepError fieldStart input.Single
     unfolding leap
     leap-error e z = simp (drop-cons ts i noStep h, e, ne-eqb stepError 0 z)
-
-    -- no field, or one of an allowed length: its bytes times 0 or 1
-    pub leap-next :
-        stepError ≡ 0 →
-        leap has s (drop i ts) tail p ≡ leap has s (drop (i + 1) ts) tail (fieldStart + stepSpan * one (has (stepAt .mark)))
-    leap-next z = go (has (stepAt .mark)) refl
-      where
-        go : (t : Bool) → has (stepAt .mark) ≡ t → leap has s (drop i ts) tail p ≡ leap has s (drop (i + 1) ts) tail (fieldStart + stepSpan * one t)
-        go true e =
-            let y : fieldStart + stepSpan ≡ fieldStart + stepSpan * 1 = omega arith in
-            leap-over e z ∙ ap (leap has s (drop (i + 1) ts) tail) y
-        go false e =
-            let y : fieldStart ≡ fieldStart + stepSpan * 0 = omega arith in
-            leap-skip e ∙ ap (leap has s (drop (i + 1) ts) tail) y

@@ -3,34 +3,32 @@
 use Prim.Native.Nat.{ℕ, zero, suc, _+_, _*_, _-_, _<_, _≤_}
 use mathlib.Core.Path.{_≡_, refl, sym, ap, _∙_}
 use mathlib.Core.List.{List, [], _∷_, _++_, append-assoc, append-nil, map}
-use mathlib.Core.Bool.{Bool, true, false}
+use mathlib.Core.Bool.{true, false}
 use mathlib.Core.Option.{some}
 use native.Mathlib.Omega.{arith}
 use lib.ListN.{length, getD, length-append}
 use lib.Dec.{eqb}
-use borrow.Author.Tests.{eq-eqb, ne-eqb}
 use Rattle.wire.specs.declared.error.Error.{Error}
 use Rattle.wire.specs.declared.error.Input.{Input}
-use Rattle.wire.specs.Read.{Bytes, AreBytes, Read, ok, bad, _>>=_, pick, refused}
+use Rattle.wire.specs.Read.{Bytes, AreBytes, Read, ok, bad, _>>=_, refused}
 use Rattle.wire.specs.Output.{put}
-use Rattle.wire.proofs.Pieces.{ok-ok, bad-ok}
+use Rattle.wire.proofs.Pieces.{ok-ok, bad-ok, bind-unit, bind-bind}
 use Rattle.column.specs.declared.column.Column.{Column}
 use Rattle.schema.specs.Schemas.{asColumn, Schema, schema, columnsOf, childNumber}
 use Rattle.schema.specs.Table.{schemaSlot, idIn, schemaIn, schemasIn}
 use Rattle.schema.proofs.TableSays.{schemas-in-length, schemas-in-at}
 use Rattle.schema.proofs.Children.{child-found}
-use Rattle.section.specs.declared.read.RowsRead.{RowsRead}
 use Rattle.section.specs.declared.read.RowsRead.the-variants as read
-use Rattle.grammar.specs.Grammar.{Before, other, after, columnsAt, Row, entry}
+use Rattle.grammar.specs.Grammar.{Before, after, columnsAt, Row, entry}
 use Rattle.grammar.specs.Reader.{section}
-use Rattle.grammar.specs.Pending.{Pending, nothing, child-row, beforeOf, flush, close, rowsFrom}
+use Rattle.grammar.specs.Pending.{Pending, nothing, child-row, flush, close, rowsFrom}
 use Rattle.section.specs.Heads.{HeadAt, doneHead, deleteHead, dataHead, headAt, beforeIn, pendingIn}
-use Rattle.section.specs.Table.{rowNumbers, rowCount, toldRows}
+use Rattle.section.specs.Table.{rowNumbers}
 use Rattle.section.specs.Scan.{laidFrom, Scanned}
 use Rattle.section.specs.Shapes.{slotColumns}
 use Rattle.section.specs.Ways.{dataEnd}
 use Rattle.grammar.proofs.Pending.{rows-are-section}
-use Rattle.section.proofs.Turns.{resumed, pendingAfter, rowsAfter, rows-step, before-pending, HeadTold, told-done, told-delete, told-parent, told-child, told-change, head-told, id-small}
+use Rattle.section.proofs.Turns.{resumed, pendingAfter, rowsAfter, rows-step, before-pending, HeadTold, told-delete, told-parent, told-child, told-change, head-told, id-small}
 use Rattle.section.proofs.Laid.{laid-more, laid-again, length-laid}
 
 -- the columns of a schema, by the table of slots
@@ -66,14 +64,6 @@ pub record AtElement (slots : List ℕ) (n : ℕ) (s : Bytes) (entry exit : List
   pub few : rows ≤ at
   pub holds : exit ≡ laidFrom 0 (listed ++ flush (pendingIn slots child origin) []) entry
 
-bind-id : {A : Type 0} (r : Read A) → r ≡ (r >>= λ a. ok a)
-bind-id (ok a) = refl
-bind-id (bad c o i) = refl
-
-bind-bind : {A B C : Type 0} (r : Read A) (g : A → Read B) (h : B → Read C) → ((r >>= g) >>= h) ≡ (r >>= λ a. g a >>= h)
-bind-bind (ok a) g h = refl
-bind-bind (bad c p i) g h = refl
-
 -- the rows that follow, each answer changed alike
 rows-alike : (r : Read (List Row)) (f g : List Row → List Row) → ((rs : List Row) → f rs ≡ g rs) → (r >>= λ rs. ok (f rs)) ≡ (r >>= λ rs. ok (g rs))
 rows-alike (ok rs) f g e = ap (λ (x : List Row). ok x) (e rs)
@@ -89,7 +79,7 @@ at-start slots n s table h =
       nested = omega arith;
       begun = omega arith;
       listed = [];
-      same = bind-id (allRows slots n s);
+      same = sym (bind-unit (allRows slots n s));
       count = refl;
       few = omega arith;
       holds = refl;
@@ -171,19 +161,58 @@ module _ (slots : List ℕ) (n : ℕ) (s : Bytes) (entry₀ table : List ℕ) (a
         },
       )
 
-  -- an 8C
-  pub deleted : (id : ℕ) → headAt (schemasIn 0 n slots) s (beforeIn slots child) at ≡ ok (deleteHead id) →
-      (1 ≤ rows) × (at + 5 ≤ length s) × AtElement slots n s entry₀ (put table (4 * (rows - 1)) (rowNumbers (entry 4 id origin 0))) (at + 5) rows 0 origin
-  deleted id e = by (told (deleteHead id) e) (turned (ok (deleteHead id)) e)
+  -- an 8C: its numbers, and what holds behind it
+  pub record Deleted (id : ℕ) : Type 0 where
+    pub some : 1 ≤ rows
+    pub within : at + 5 ≤ length s
+    pub small : id < 4294967296
+    pub next : AtElement slots n s entry₀ (put table (4 * (rows - 1)) (rowNumbers (entry 4 id origin 0))) (at + 5) rows 0 origin
+
+  pub deleted : (id : ℕ) → AreBytes s → headAt (schemasIn 0 n slots) s (beforeIn slots child) at ≡ ok (deleteHead id) → Deleted id
+  deleted id o e = by (told (deleteHead id) e) (turned (ok (deleteHead id)) e)
     where
       by : HeadTold (schemasIn 0 n slots) s (beforeIn slots child) at (deleteHead id) →
           (f : ℕ) × (length s ≤ f + at)
           × (allRows slots n s
           ≡ ((rowsFrom (schemasIn 0 n slots) s f nothing (at + 5) >>= λ rs. ok (close 4 0 (pendingIn slots child origin) rs)) >>= λ rs. ok (a .listed ++ rs))) →
-          (1 ≤ rows) × (at + 5 ≤ length s) × AtElement slots n s entry₀ (put table (4 * (rows - 1)) (rowNumbers (entry 4 id origin 0))) (at + 5) rows 0 origin
+          Deleted id
       by (told-delete b j l) (f, m, w) =
           let (x, y) = closed 4 id 0 (at + 5) f _ b (omega arith) (omega arith) l refl w in
-          (x, l, y)
+          record { some = x; within = l; small = omega (arith, id-small s at o l); next = y }
+
+  -- what the head of row data says of its numbers
+  pub record Ahead (kind k id start : ℕ) : Type 0 where
+    pub head : headAt (schemasIn 0 n slots) s (beforeIn slots child) at ≡ ok (dataHead kind k id start)
+    pub number : k < n
+    pub behind : at < start
+    pub within : start ≤ length s
+    pub small : id < 4294967296
+    pub low : kind ≤ 3
+
+  pub head-ahead : (kind k id start : ℕ) → 1 ≤ n → AreBytes s → headAt (schemasIn 0 n slots) s (beforeIn slots child) at ≡ ok (dataHead kind k id start) → Ahead kind k id start
+  head-ahead kind k id start one o h = by (told (dataHead kind k id start) h) h
+    where
+      by : {kind k id start : ℕ} → HeadTold (schemasIn 0 n slots) s (beforeIn slots child) at (dataHead kind k id start) →
+          headAt (schemasIn 0 n slots) s (beforeIn slots child) at ≡ ok (dataHead kind k id start) → Ahead kind k id start
+      by (told-parent l) h = record { head = h; number = omega arith; behind = omega arith; within = l; small = omega arith; low = omega arith }
+      by (told-child {k = k} {id = id} c j z l) h =
+          record {
+            head = h;
+            number = child-slot slots n id k c .1;
+            behind = omega arith;
+            within = l;
+            small = omega (arith, id-small s at o (omega arith));
+            low = omega arith;
+          }
+      by (told-change {k = k} {id = id} b c j z l) h =
+          record {
+            head = h;
+            number = child-slot slots n id k c .1;
+            behind = omega arith;
+            within = l;
+            small = omega (arith, id-small s at o (omega arith));
+            low = omega arith;
+          }
 
   -- row data of a kind, up to their end
   ended : (kind k id start e f : ℕ) → dataEnd (eqb kind 3) (columnsAt (schemasIn 0 n slots) k) s start ≡ ok e →
@@ -198,15 +227,14 @@ module _ (slots : List ℕ) (n : ℕ) (s : Bytes) (entry₀ table : List ℕ) (a
       q
 
   -- an error of the data
-  pub data-refused : (kind k id start : ℕ) {c o : ℕ} {i : Input} → headAt (schemasIn 0 n slots) s (beforeIn slots child) at ≡ ok (dataHead kind k id start) →
-      k < n → dataEnd (eqb kind 3) (slotColumns slots k) s start ≡ bad c o i → allRows slots n s ≡ bad c o i
-  data-refused kind k id start h l q =
-      let (f, m, w) = turned (ok (dataHead kind k id start)) h in
+  pub data-refused : {kind k id start c o : ℕ} {i : Input} → Ahead kind k id start → dataEnd (eqb kind 3) (slotColumns slots k) s start ≡ bad c o i → allRows slots n s ≡ bad c o i
+  data-refused {kind} {k} {id} {start} h q =
+      let (f, m, w) = turned (ok (dataHead kind k id start)) (h .head) in
       w
       ∙ ap
       (λ (x : Read ℕ).
       (x >>= λ y. rowsFrom (schemasIn 0 n slots) s f (pendingAfter kind id start) y >>= λ rs. ok (rowsAfter kind start (pendingIn slots child origin) rs)) >>= λ rs. ok (a .listed ++ rs))
-      (ap (λ (cs : List Column). dataEnd (eqb kind 3) cs s start) (columns-at slots n k l) ∙ q)
+      (ap (λ (cs : List Column). dataEnd (eqb kind 3) cs s start) (columns-at slots n k (h .number)) ∙ q)
 
   -- the rows so far, none of them open
   abbrev shut : List Row
@@ -274,10 +302,9 @@ module _ (slots : List ℕ) (n : ℕ) (s : Bytes) (entry₀ table : List ℕ) (a
       }
 
   -- The row of data that end at e: of a parent or a child a new row.
-  pub row-ended : (kind k id start e : ℕ) → 1 ≤ n → headAt (schemasIn 0 n slots) s (beforeIn slots child) at ≡ ok (dataHead kind k id start) →
-      eqb kind 3 ≡ false → dataEnd (eqb kind 3) (slotColumns slots k) s start ≡ ok e → start ≤ e → e ≤ length s →
+  pub row-ended : {kind k id start : ℕ} (e : ℕ) → Ahead kind k id start → eqb kind 3 ≡ false → dataEnd (eqb kind 3) (slotColumns slots k) s start ≡ ok e → start ≤ e → e ≤ length s →
       AtElement slots n s entry₀ (put table (4 * rows) (rowNumbers (entry kind id start 0))) e (rows + 1) k start
-  row-ended kind k id start e one h t q x y = by (told (dataHead kind k id start) h) t (turned (ok (dataHead kind k id start)) h) q x
+  row-ended {kind} {k} {id} {start} e h t q x y = by (told (dataHead kind k id start) (h .head)) t (turned (ok (dataHead kind k id start)) (h .head)) q x
     where
       by : {kind k id start : ℕ} → HeadTold (schemasIn 0 n slots) s (beforeIn slots child) at (dataHead kind k id start) → eqb kind 3 ≡ false →
           (f : ℕ) × (length s ≤ f + at)
@@ -285,65 +312,29 @@ module _ (slots : List ℕ) (n : ℕ) (s : Bytes) (entry₀ table : List ℕ) (a
           ≡ (resumed (schemasIn 0 n slots) s (rowsFrom (schemasIn 0 n slots) s f) (pendingIn slots child origin) at (dataHead kind k id start) >>= λ rs. ok (a .listed ++ rs))) →
           dataEnd (eqb kind 3) (slotColumns slots k) s start ≡ ok e → start ≤ e →
           AtElement slots n s entry₀ (put table (4 * rows) (rowNumbers (entry kind id start 0))) e (rows + 1) k start
-      by (told-parent l) t (f, m, w) q x = parent-ended 0 e one f m w q x y
+      by (told-parent l) t (f, m, w) q x = parent-ended 0 e (omega (arith, h .number)) f m w q x y
       by (told-child {k = k} {id = id} {start = start} c j z l) t (f, m, w) q x = child-ended k id start e c (omega arith) f m w q x y
       by (told-change b c j z l) t w q x = let v : _≡_ {A = ℕ} 0 1 = cc in absurd (omega arith)
 
   -- Update data that end at e: the row of the 87 before them is changed.
-  pub change-ended : (kind k id start e : ℕ) → headAt (schemasIn 0 n slots) s (beforeIn slots child) at ≡ ok (dataHead kind k id start) →
-      eqb kind 3 ≡ true → dataEnd (eqb kind 3) (slotColumns slots k) s start ≡ ok e → start ≤ e → e ≤ length s →
-      (1 ≤ rows) × AtElement slots n s entry₀ (put table (4 * (rows - 1)) (rowNumbers (entry 3 id origin start))) e rows 0 origin
-  change-ended kind k id start e h t q x y = by (told (dataHead kind k id start) h) t (turned (ok (dataHead kind k id start)) h) q x
+  abbrev pub Changed : (id start e : ℕ) → Type 0
+  Changed id start e = (1 ≤ rows) × AtElement slots n s entry₀ (put table (4 * (rows - 1)) (rowNumbers (entry 3 id origin start))) e rows 0 origin
+
+  pub change-ended : {kind k id start : ℕ} (e : ℕ) → Ahead kind k id start → eqb kind 3 ≡ true → dataEnd (eqb kind 3) (slotColumns slots k) s start ≡ ok e → start ≤ e →
+      e ≤ length s → Changed id start e
+  change-ended {kind} {k} {id} {start} e h t q x y = by (told (dataHead kind k id start) (h .head)) t (turned (ok (dataHead kind k id start)) (h .head)) q x
     where
       by : {kind k id start : ℕ} → HeadTold (schemasIn 0 n slots) s (beforeIn slots child) at (dataHead kind k id start) → eqb kind 3 ≡ true →
           (f : ℕ) × (length s ≤ f + at)
           × (allRows slots n s
           ≡ (resumed (schemasIn 0 n slots) s (rowsFrom (schemasIn 0 n slots) s f) (pendingIn slots child origin) at (dataHead kind k id start) >>= λ rs. ok (a .listed ++ rs))) →
-          dataEnd (eqb kind 3) (slotColumns slots k) s start ≡ ok e → start ≤ e →
-          (1 ≤ rows) × AtElement slots n s entry₀ (put table (4 * (rows - 1)) (rowNumbers (entry 3 id origin start))) e rows 0 origin
+          dataEnd (eqb kind 3) (slotColumns slots k) s start ≡ ok e → start ≤ e → Changed id start e
       by (told-parent l) t w q x = let v : _≡_ {A = ℕ} 0 1 = cc in absurd (omega arith)
       by (told-child c j z l) t w q x = let v : _≡_ {A = ℕ} 0 1 = cc in absurd (omega arith)
       by (told-change {k = k} {id = id} {start = start} b c j z l) t (f, m, w) q x =
           let (one, l, i) = child-slot slots n id k c in
           closed 3 id start e f (rowsFrom (schemasIn 0 n slots) s f nothing e) b (omega arith) (omega arith) y refl
           (ended 3 k id start e f (ap (λ (cs : List Column). dataEnd true cs s start) (columns-at slots n k l) ∙ q) w)
-
-  -- what the head of row data says of its numbers
-  pub record Ahead (kind k id start : ℕ) : Type 0 where
-    pub number : k < n
-    pub behind : at < start
-    pub within : start ≤ length s
-    pub small : id < 4294967296
-    pub low : kind ≤ 3
-
-  pub head-ahead : (kind k id start : ℕ) → 1 ≤ n → AreBytes s → headAt (schemasIn 0 n slots) s (beforeIn slots child) at ≡ ok (dataHead kind k id start) → Ahead kind k id start
-  head-ahead kind k id start one o h = by (told (dataHead kind k id start) h)
-    where
-      by : {kind k id start : ℕ} → HeadTold (schemasIn 0 n slots) s (beforeIn slots child) at (dataHead kind k id start) → Ahead kind k id start
-      by (told-parent l) = record { number = omega arith; behind = omega arith; within = l; small = omega arith; low = omega arith }
-      by (told-child {k = k} {id = id} c j z l) =
-          record {
-            number = child-slot slots n id k c .1;
-            behind = omega arith;
-            within = l;
-            small = omega (arith, id-small s at o (omega arith));
-            low = omega arith;
-          }
-      by (told-change {k = k} {id = id} b c j z l) =
-          record {
-            number = child-slot slots n id k c .1;
-            behind = omega arith;
-            within = l;
-            small = omega (arith, id-small s at o (omega arith));
-            low = omega arith;
-          }
-
-  -- and the id of an 8C
-  pub delete-small : (id : ℕ) → AreBytes s → headAt (schemasIn 0 n slots) s (beforeIn slots child) at ≡ ok (deleteHead id) → id < 4294967296
-  delete-small id o h = by (told (deleteHead id) h)
-    where
-      by : HeadTold (schemasIn 0 n slots) s (beforeIn slots child) at (deleteHead id) → id < 4294967296
-      by (told-delete b j l) = omega (arith, id-small s at o l)
 
   -- how long the table is
   pub table-long : length table ≡ length entry₀

@@ -22,7 +22,7 @@ use Rattle.column.specs.declared.types.Kind.{Kind}
 use Rattle.column.specs.declared.types.Kind.the-variants.{Fixed, Variable, Wide, Chapter, Unknown}
 use Rattle.column.specs.Types.{variableKind}
 use Rattle.column.specs.Columns.{kind, width, isVariable, prefixSize, lengthErrorOf, lengthError, toldLength}
-use Rattle.column.proofs.Laws.{code-positive}
+use Rattle.column.proofs.Laws.{code-positive, length-none}
 use Rattle.row.specs.Presence.{one, mark, present}
 use Rattle.row.specs.Updates.{carried}
 use Rattle.row.proofs.Arrays.{rest}
@@ -164,18 +164,6 @@ times-most n has most h l = go (bit-of has h)
     go : {has : ℕ} → Bit has → n * has ≤ most
     go unset = let z : n * 0 ≡ 0 = omega arith in rw z (omega arith)
     go set = let z : n * 1 ≡ n = omega arith in rw z l
-
--- a length of no bytes is allowed
-length-none : (c : Column) → lengthError c 0 ≡ 0
-unfolding lengthError
-length-none c = go (kind c)
-  where
-    go : (k : Kind) → lengthErrorOf k (c .maximum) 0 ≡ 0
-    go (Fixed w) = refl
-    go Variable = rw (le-leb 0 (c .maximum) (omega arith))
-    go Wide = rw (le-leb 0 (2 * c .maximum) (omega arith))
-    go Chapter = refl
-    go Unknown = refl
 
 module _ (c : Column) (s : Bytes) (at : ℕ) where
   -- bytes that are known, where the field is there

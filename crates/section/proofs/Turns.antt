@@ -3,17 +3,16 @@
 use Prim.Native.Nat.{ℕ, zero, suc, _+_, _^_, _<_, _≤_}
 use mathlib.Core.Path.{_≡_, refl, sym, ap, _∙_}
 use mathlib.Core.List.{List, [], _∷_}
-use mathlib.Core.Bool.{Bool, true, false}
+use mathlib.Core.Bool.{true}
 use mathlib.Core.Option.{Option, none, some}
 use native.Mathlib.Omega.{arith}
 use lib.ListN.{length, getD, drop}
 use lib.Dec.{leb, eqb}
 use borrow.Author.Tests.{leb-true, eqb-true}
-use Rattle.wire.specs.declared.error.Input.{Input}
 use Rattle.wire.specs.Integers.{valueOf, intAt}
-use Rattle.wire.specs.Read.{Bytes, AreBytes, cut, Read, ok, bad, _>>=_, pick, check, whole}
+use Rattle.wire.specs.Read.{Bytes, AreBytes, cut, Read, ok, _>>=_, pick, check, whole}
 use Rattle.schema.specs.Schemas.{Schema, childNumber}
-use Rattle.wire.proofs.Pieces.{bind-ok, check-ok, ok-ok, bad-ok, cut-length, value-small, bytes-take, bytes-drop}
+use Rattle.wire.proofs.Pieces.{bind-ok, check-ok, ok-ok, bad-ok, cut-length, value-small, bytes-take, bytes-drop, bind-same, bind-bind}
 use Rattle.grammar.specs.Grammar.{Before, other, after, columnsAt, Row, entry}
 use Rattle.grammar.specs.Reader.{Token, parentToken, childToken, changeToken, deleteToken, doneToken, unknownToken, tokenOf, knownChild, follows, idAt}
 use Rattle.grammar.specs.Pending.{Pending, nothing, child-row, beforeOf, flush, close, turn, rowsFrom}
@@ -35,21 +34,12 @@ resumed S s next p at (deleteHead id) = next nothing (at + 5) >>= λ rs. ok (clo
 resumed S s next p at (dataHead kind k id start) =
     dataEnd (eqb kind 3) (columnsAt S k) s start >>= λ e. next (pendingAfter kind id start) e >>= λ rs. ok (rowsAfter kind start p rs)
 
-bind-bind : {A B C : Type 0} (r : Read A) (g : A → Read B) (h : B → Read C) → ((r >>= g) >>= h) ≡ (r >>= λ a. g a >>= h)
-bind-bind (ok a) g h = refl
-bind-bind (bad c p i) g h = refl
-
 -- four bytes behind a token end at at + 5
 id-end : (s : Bytes) (at b : ℕ) → whole s (at + 1) 4 ≡ ok b → b ≡ at + 5
 unfolding whole
 id-end s at b e =
     let (u, t, f) = bind-ok (check (leb (at + 1 + 4) (length s)) 1 (length s)) (λ _. ok (at + 1 + 4)) b e in
     omega (arith, ok-ok f)
-
--- two readers that go on alike
-bind-same : {A B : Type 0} (r : Read A) (g h : A → Read B) → ((a : A) → r ≡ ok a → g a ≡ h a) → (r >>= g) ≡ (r >>= h)
-bind-same (ok a) g h e = e a refl
-bind-same (bad c p i) g h e = refl
 
 module _ (S : List Schema) (s : Bytes) (next : Pending → ℕ → Read (List Row)) (p : Pending) (at : ℕ) where
   by-token : (t : Token) → turn S s next p at t ≡ (headBy S s (beforeOf p) at t >>= resumed S s next p at)

@@ -1,26 +1,26 @@
 -- The way over a row's data: what a form and the words of a schema say of it, once the maps are checked.
 -- Assumes nothing.
-use Prim.Native.Nat.{ℕ, _+_, _*_, _<_, _≤_}
-use mathlib.Core.Path.{_≡_, refl, sym, ap, _∙_}
-use mathlib.Core.List.{List, map}
-use mathlib.Core.Bool.{Bool, true, false}
+use Prim.Native.Nat.{ℕ, _+_, _<_, _≤_}
+use mathlib.Core.Path.{_≡_, sym, ap, _∙_}
+use mathlib.Core.List.{List}
+use mathlib.Core.Bool.{true, false}
 use native.Mathlib.Omega.{arith}
 use lib.ListN.{length, getD, drop}
 use Rattle.wire.specs.declared.error.Error.{Error}
 use Rattle.wire.specs.Bits.{mapBytes}
-use Rattle.wire.specs.Read.{Bytes, Read, ok, bad, _>>=_, refused}
+use Rattle.wire.specs.Read.{Bytes, ok, _>>=_, refused}
 use Rattle.column.specs.declared.column.Column.{Column}
-use Rattle.column.specs.Columns.{width}
-use Rattle.row.specs.Presence.{noColumn, Mark, mark, marks, present, presenceBytes}
-use Rattle.row.specs.Rows.{opened, rowEnd}
-use Rattle.row.specs.Updates.{numbered, carried, carriedIn, updateBytes, updateOpened, updateEnd}
-use Rattle.row.proofs.Laws.{bind-bad, length-marks, end-closed}
+use Rattle.column.specs.Columns.{width, isStop}
+use Rattle.row.specs.Presence.{noColumn, mark, marks, present}
+use Rattle.row.specs.Rows.{opened}
+use Rattle.row.specs.Updates.{numbered, carried, updateBytes, updateOpened}
+use Rattle.row.proofs.Laws.{length-marks, end-closed}
 use Rattle.row.proofs.UpdateLaws.{carried-in, update-end-closed}
 use Rattle.schema.specs.Schemas.{asColumn}
 use Rattle.schema.specs.Table.{schemaSlot, startIn, countIn, entryIn}
-use Rattle.section.specs.Steps.{Step, noStep, stepTo, isStop, anyColumn, stepsFrom, tailFrom, leap}
-use Rattle.section.specs.Shapes.{columnOf, gapOf, bitOfWord, widthOfWord, firstIn, stepsIn, tailIn, Says, SaysColumn, updateWords, slotColumns, rowSteps, Formed, Sound, Shaped, hasWord}
-use Rattle.section.specs.Ways.{dataEnd, dataHas, dataSteps, Leads, Led}
+use Rattle.section.specs.Steps.{noStep, stepTo, anyColumn, stepsFrom, leap}
+use Rattle.section.specs.Shapes.{columnOf, gapOf, bitOfWord, widthOfWord, firstIn, stepsIn, tailIn, Says, SaysColumn, updateWords, slotColumns, rowSteps, Sound, Shaped}
+use Rattle.section.specs.Ways.{dataEnd, dataSteps, Leads, Led}
 use Rattle.section.proofs.Slots.{length-slots, slot-at, slot-bytes}
 use Rattle.section.proofs.Leap.{original-ends, update-ends, opened-start, update-start, steps-few, update-steps, update-step}
 

@@ -1,42 +1,11 @@
 -- Words and forms back to their parts.
 -- Assumes nothing.
-use Prim.Native.Nat.{ℕ, _+_, _*_, _/_, _%_, _≤_, _<_}
-use mathlib.Core.Path.{_≡_, refl, sym}
-use mathlib.Core.List.{List, [], _∷_}
-use mathlib.Core.Bool.{Bool, true, false, true≢false}
+use Prim.Native.Nat.{ℕ, _+_, _*_, _/_, _%_, _<_}
+use mathlib.Core.Path.{_≡_, refl}
 use native.Mathlib.Omega.{arith}
-use lib.Dec.{leb, eqb}
-use borrow.Author.Tests.{leb-true}
-use Rattle.wire.specs.Read.{pick}
-use Rattle.column.specs.declared.column.Column.{Column}
-use Rattle.column.specs.Types.{Entry, types, kindIn, kindOf, widthOf}
-use Rattle.column.specs.Columns.{width}
 use Rattle.schema.specs.Schemas.{asColumn}
 use Rattle.schema.specs.Table.{codeIn, flagsIn, maximumIn, entryIn}
 use Rattle.section.specs.Shapes.{wordOf, columnOf, gapOf, bitOfWord, widthOfWord, formOf, firstIn, stepsIn, mapIn, tailIn, markedIn, chaptersIn}
-
--- no type of a table is wider than 16 bytes
-narrow : List Entry → Bool
-narrow [] = true
-narrow (e ∷ es) = pick (leb (widthOf (e .kind)) 16) (narrow es) false
-
--- so none that is found in it is
-narrow-in : (es : List Entry) (code : ℕ) → narrow es ≡ true → widthOf (kindIn es code) ≤ 16
-unfolding kindIn narrow
-narrow-in [] code h = omega arith
-narrow-in (e ∷ es) code h = go (leb (widthOf (e .kind)) 16) refl h (eqb code (e .code)) (narrow-in es code)
-  where
-    go :
-        (t : Bool) → leb (widthOf (e .kind)) 16 ≡ t → pick t (narrow es) false ≡ true → (s : Bool) → (narrow es ≡ true → widthOf (kindIn es code) ≤ 16) →
-        widthOf (pick s (e .kind) (kindIn es code)) ≤ 16
-    go true x y true r = leb-true _ _ x
-    go true x y false r = r y
-    go false x y s r = absurd (true≢false (sym y))
-
--- the width of a column
-pub width-few : (c : Column) → width c ≤ 16
-unfolding kindOf types narrow
-width-few c = narrow-in types (c .code) refl
 
 -- of a word
 module _ (slot gap bit wide : ℕ) (g : gap < 65536) (b : bit < 256) where

@@ -9,12 +9,12 @@ use mathlib.Core.Option.{some}
 use lib.ListN.{length, getD, drop}
 use Rattle.wire.specs.Read.{Bytes, pick}
 use Rattle.column.specs.declared.column.Column.{Column}
-use Rattle.column.specs.Columns.{width, isChapter, isNullable}
-use Rattle.row.specs.Presence.{noColumn, one, presenceBytes, Mark, mark, marks, present}
-use Rattle.row.specs.Updates.{numbered, carried}
-use Rattle.schema.specs.Schemas.{asColumn, Schema, schema, columnCount, childNumber}
+use Rattle.column.specs.Columns.{width, isChapter, isNullable, isStop}
+use Rattle.row.specs.Presence.{one, presenceBytes, mark, marks, present}
+use Rattle.row.specs.Updates.{carried}
+use Rattle.schema.specs.Schemas.{asColumn, schema, columnCount, childNumber}
 use Rattle.schema.specs.Table.{schemaSlot, startIn, countIn, idIn, entryIn, entriesIn, schemasIn}
-use Rattle.section.specs.Steps.{Step, noStep, isStop, stepsFrom, tailFrom}
+use Rattle.section.specs.Steps.{Step, noStep, stepsFrom, tailFrom}
 
 -- A word: the column of a slot, the gap in front of it, its bit, the width of its fields.
 abbrev pub wordOf : (slot gap bit width : ℕ) → ℕ

@@ -3,14 +3,14 @@
 -- Assumes nothing.
 use Prim.Native.Nat.{ℕ, _+_}
 use mathlib.Core.List.{List, [], _∷_}
-use mathlib.Core.Bool.{Bool, true, false}
+use mathlib.Core.Bool.{Bool, true}
 use lib.ListN.{length}
 use lib.Dec.{leb, eqb}
 use Rattle.wire.specs.declared.error.Input.the-variants as input
 use Rattle.wire.specs.Read.{Bytes, Read, ok, bad, pick}
 use Rattle.wire.specs.Integers.{intAt}
 use Rattle.column.specs.declared.column.Column.{Column}
-use Rattle.column.specs.Columns.{width, isVariable, isChapter, isNullable, prefixSize, lengthError}
+use Rattle.column.specs.Columns.{width, isVariable, prefixSize, lengthError}
 use Rattle.row.specs.Presence.{Mark, noMark}
 
 -- A step: a column with its bit, and the bytes from the last step's column to it.
@@ -23,10 +23,6 @@ stepTo gap m = record { gap = gap; mark = m }
 
 abbrev pub noStep : Step
 noStep = stepTo 0 noMark
-
--- A stop of original rows: a column that is no chapter and is nullable or of variable length.
-unfoldable pub isStop : Column → Bool
-isStop c = pick (isChapter c) false (pick (isNullable c) true (isVariable c))
 
 -- in update data every column may have a field or not
 abbrev pub anyColumn : Column → Bool

@@ -8,25 +8,11 @@ ghost use Rattle.wire.specs.Read.{pick};
 ghost use Rattle.column.specs.Columns.{isChapter, isNullable, width};
 ghost use Rattle.schema.specs.Schemas.{asColumn};
 ghost use Rattle.schema.specs.Table.{entriesIn, entryIn};
-ghost use Rattle.section.specs.Steps.{isStop};
 ghost use Rattle.section.specs.Shapes.{wordOf, formOf, Sound, Added, AllUpdates, AllForms};
 use crate::data::column_in;
 use column::column::Column;
 use row::rows::one;
 use wire::bits::map_bytes;
-
-// Whether places behind a column depend on the row.
-fn is_stop(column: Column) -> bool
-    ensures { λ r. ⌜ r ≡ isStop column ⌝ }
-{
-    if column.is_chapter() {
-        return false;
-    }
-    if column.is_nullable() {
-        return true;
-    }
-    column.is_variable()
-}
 
 // Whether a column is a chapter that is nullable.
 fn is_marked(column: Column) -> bool
@@ -92,7 +78,7 @@ fn add_schema(
         let column = column_in(slot);
         marked += one(is_marked(column));
         chapters += one(column.is_chapter());
-        if is_stop(column) {
+        if column.is_stop() {
             words[next + steps] = word_of(slot, gap, bit);
             steps += 1;
             gap = 0;

@@ -88,6 +88,20 @@ pub bind-ok : {A B : Type 0} (r : Read A) (g : A → Read B) (b : B) → r >>= g
 bind-ok (ok a) g b e = (a, refl, e)
 bind-ok (bad c p i) g b e = absurd (bad-ok e)
 
+-- Readers one after the other: those that go on alike where the first answers, one that answers as it is, and three.
+
+pub bind-same : {A B : Type 0} (r : Read A) (g h : A → Read B) → ((a : A) → r ≡ ok a → g a ≡ h a) → r >>= g ≡ r >>= h
+bind-same (ok a) g h e = e a refl
+bind-same (bad c p i) g h e = refl
+
+pub bind-unit : {A : Type 0} (r : Read A) → r >>= (λ (a : A). ok a) ≡ r
+bind-unit (ok a) = refl
+bind-unit (bad c p i) = refl
+
+pub bind-bind : {A B C : Type 0} (r : Read A) (g : A → Read B) (h : B → Read C) → (r >>= g) >>= h ≡ r >>= (λ (a : A). g a >>= h)
+bind-bind (ok a) g h = refl
+bind-bind (bad c p i) g h = refl
+
 pub check-ok : (t : Bool) (c p : ℕ) (u : Unit {0}) → check t c p ≡ ok u → t ≡ true
 unfolding check
 check-ok true c p u e = refl

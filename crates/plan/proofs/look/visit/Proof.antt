@@ -2,19 +2,19 @@
 -- Assumes nothing.
 use Prim.Native.Nat.{ℕ, _+_, _*_}
 use mathlib.Core.Path.{_≡_, sym, ap, _∙_}
-use mathlib.Core.Bool.{true}
 use native.Mathlib.Omega.{arith}
 use lib.ListN.{length}
 use Rattle.wire.specs.Read.{ok}
 use Rattle.wire.specs.Bits.{bitSet}
 use Rattle.column.specs.declared.column.Column.{Column}
-use Rattle.column.specs.Columns.{isVariable}
+use Rattle.column.specs.Columns.{isVariable, isStop}
+use Rattle.column.proofs.Stops.{stop-variable}
 use Rattle.row.specs.Presence.{one}
 use Rattle.row.specs.Rows.{place}
-use Rattle.plan.specs.Packed.{bitIn, widthIn}
-use Rattle.plan.specs.Plans.{isStop, plannedWord, plannedColumn, passedVariable}
+use Rattle.plan.specs.Packed.{widthIn}
+use Rattle.plan.specs.Plans.{plannedWord, plannedColumn, passedVariable}
 use Rattle.plan.specs.Lent.{lent}
-use Rattle.plan.proofs.Laws.{stop-variable, near-more, times-one, passed-variable, passed-fixed, visit-behind, visit-plain, visit-over}
+use Rattle.plan.proofs.Laws.{near-more, times-one, passed-variable, passed-fixed, visit-behind, visit-plain, visit-over}
 use borrow.Author.Needs.{needs}
 use Rattle.plan.proofs.look.visit.Statement.{statement}
 use Rattle.plan.proofs.look.visit.Tie as tie

@@ -17,103 +17,47 @@ use borrow.Author.Needs.{needs}
 use Rattle.row.proofs.current.current.Statement.{statement}
 use Rattle.row.proofs.current.current.Tie as tie
 
+-- the update data, and the row, are within the limit
+update-within : (a : tie.Else1) → length (a .before .before .before .args .update .now) ≤ limit
+update-within a = omega (arith, a .if1 .left)
+
+row-within : (a : tie.Else2) → length (a .before .before .before .before .args .row .now) ≤ limit
+row-within a = omega (arith, a .if2 .left)
+
+-- so both may be looked at
+same : (a : tie.Else2) → current (columnsIn (a .before .before .before .before .args .columns)) (a .before .before .before .before .args .row .now) (a .before .before .before .before .args .update .now) (a .before .before .before .before .args .k) ≡ currentRow (columnsIn (a .before .before .before .before .args .columns)) (a .before .before .before .before .args .row .now) (a .before .before .before .before .args .update .now) (a .before .before .before .before .args .k)
+same a = sym (current-sized _ _ _ _ (update-within (a .before)) (row-within a))
+
+-- what the update data say
+told : (a : tie.After-look-update) → lookUpdate (columnsIn (a .before .before .before .before .before .args .columns)) (a .before .before .before .before .before .args .update .now) (a .before .before .before .before .before .args .k) ≡ toldUpdate (a .look-update .result)
+told a = sym (look-update-sized _ _ _ (update-within (a .before .before))) ∙ sym (a .look-update .ensures)
+
 returns : tie.Need-returns
-returns c =
-    let args = c .before .before .before .args in
-    sym (current-large-update (columnsIn (args .columns)) (args .row .now) (args .update .now) (args .k) (c .if1 .taken))
+returns c = let a = c .before .before .before in sym (current-large-update (columnsIn (a .args .columns)) (a .args .row .now) (a .args .update .now) (a .args .k) (c .if1 .taken))
 
 returns-2 : tie.Need-returns-2
-returns-2 c =
-    let args = c .before .before .before .before .args in
-    let cs : List Column = columnsIn (args .columns) in
-    let row : Bytes = args .row .now in
-    let update : Bytes = args .update .now in
-    let k = args .k in
-    let h : length update ≤ limit = omega (arith, c .before .if1 .left) in
-    sym (current-large-row cs row update k h (c .if2 .taken))
+returns-2 c = let a = c .before .before .before .before in sym (current-large-row (columnsIn (a .args .columns)) (a .args .row .now) (a .args .update .now) (a .args .k) (update-within (c .before)) (c .if2 .taken))
 
 returns-3 : tie.Need-returns-3
-returns-3 c =
-    let args = c .before .before .before .before .before .before .before .before .args in
-    let if1 = c .before .before .before .before .before .if1 in
-    let if2 = c .before .before .before .before .if2 in
-    let look-update = c .before .before .before .look-update in
-    let cs : List Column = columnsIn (args .columns) in
-    let row : Bytes = args .row .now in
-    let update : Bytes = args .update .now in
-    let k = args .k in
-    let h : length update ≤ limit = omega (arith, if1 .left) in
-    let g : length row ≤ limit = omega (arith, if2 .left) in
-    let s = sym (current-sized cs row update k h g) in
-    let u : lookUpdate cs update k ≡ toldUpdate (look-update .result) = sym (look-update-sized cs update k h) ∙ sym (look-update .ensures) in
-    sym (current-refused cs row update k (u ∙ ap toldUpdate (c .before .e .given .1))) ∙ s
+returns-3 c = let a = c .before .before .before .before .before .before .before .before in sym (current-refused (columnsIn (a .args .columns)) (a .args .row .now) (a .args .update .now) (a .args .k) (told (c .before .before .before) ∙ ap toldUpdate (c .before .e .given .1))) ∙ same (c .before .before .before .before)
 
 returns-4 : tie.Need-returns-4
-returns-4 c =
-    let args = c .before .before .before .before .before .before .before .before .args in
-    let if1 = c .before .before .before .before .before .if1 in
-    let if2 = c .before .before .before .before .if2 in
-    let look-update = c .before .before .before .look-update in
-    let cs : List Column = columnsIn (args .columns) in
-    let row : Bytes = args .row .now in
-    let update : Bytes = args .update .now in
-    let k = args .k in
-    let h : length update ≤ limit = omega (arith, if1 .left) in
-    let g : length row ≤ limit = omega (arith, if2 .left) in
-    let s = sym (current-sized cs row update k h g) in
-    let u : lookUpdate cs update k ≡ toldUpdate (look-update .result) = sym (look-update-sized cs update k h) ∙ sym (look-update .ensures) in
-    sym (current-updated cs row update k _ (u ∙ ap toldUpdate (c .before .f .given .1))) ∙ s
+returns-4 c = let a = c .before .before .before .before .before .before .before .before in sym (current-updated (columnsIn (a .args .columns)) (a .args .row .now) (a .args .update .now) (a .args .k) _ (told (c .before .before .before) ∙ ap toldUpdate (c .before .f .given .1))) ∙ same (c .before .before .before .before)
 
 returns-5 : tie.Need-returns-5
-returns-5 c =
-    let args = c .before .before .before .before .before .before .before .args in
-    let if1 = c .before .before .before .before .if1 in
-    let if2 = c .before .before .before .if2 in
-    let look-update = c .before .before .look-update in
-    let cs : List Column = columnsIn (args .columns) in
-    let row : Bytes = args .row .now in
-    let update : Bytes = args .update .now in
-    let k = args .k in
-    let h : length update ≤ limit = omega (arith, if1 .left) in
-    let g : length row ≤ limit = omega (arith, if2 .left) in
-    let s = sym (current-sized cs row update k h g) in
-    let u : lookUpdate cs update k ≡ toldUpdate (look-update .result) = sym (look-update-sized cs update k h) ∙ sym (look-update .ensures) in
-    sym (current-forced cs row update k (u ∙ ap toldUpdate (c .enum-told .given .1))) ∙ s
+returns-5 c = let a = c .before .before .before .before .before .before .before in sym (current-forced (columnsIn (a .args .columns)) (a .args .row .now) (a .args .update .now) (a .args .k) (told (c .before .before) ∙ ap toldUpdate (c .enum-told .given .1))) ∙ same (c .before .before .before)
 
 returns-6 : tie.Need-returns-6
 returns-6 c =
-    let args = c .before .before .before .before .before .before .before .before .before .args in
-    let if1 = c .before .before .before .before .before .before .if1 in
-    let if2 = c .before .before .before .before .before .if2 in
-    let look-update = c .before .before .before .before .look-update in
-    let enum-told2 = c .before .before .enum-told2 in
-    let look-up = c .before .look-up in
-    let cs : List Column = columnsIn (args .columns) in
-    let row : Bytes = args .row .now in
-    let update : Bytes = args .update .now in
-    let k = args .k in
-    let h : length update ≤ limit = omega (arith, if1 .left) in
-    let g : length row ≤ limit = omega (arith, if2 .left) in
-    let s = sym (current-sized cs row update k h g) in
-    let u : lookUpdate cs update k ≡ toldUpdate (look-update .result) = sym (look-update-sized cs update k h) ∙ sym (look-update .ensures) in
-    c .from-row .ensures ∙ ap fromRow (look-up .ensures ∙ look-up-sized cs row k g) ∙ sym (current-unchanged cs row update k (u ∙ ap toldUpdate (enum-told2 .given .1))) ∙ s
+    let a = c .before .before .before .before .before .before .before .before .before in
+    c .from-row .ensures ∙ ap fromRow (c .before .look-up .ensures ∙ look-up-sized _ _ _ (row-within (c .before .before .before .before .before)))
+    ∙ sym (current-unchanged (columnsIn (a .args .columns)) (a .args .row .now) (a .args .update .now) (a .args .k) (told (c .before .before .before .before) ∙ ap toldUpdate (c .before .before .enum-told2 .given .1))) ∙ same (c .before .before .before .before .before)
 
 returns-7 : tie.Need-returns-7
 returns-7 c =
-    let args = c .before .before .before .before .before .before .before .before .before .args in
-    let if1 = c .before .before .before .before .before .before .if1 in
-    let if2 = c .before .before .before .before .before .if2 in
-    let look-update = c .before .before .before .before .look-update in
-    let enum-told3 = c .before .before .enum-told3 in
-    let cs : List Column = columnsIn (args .columns) in
-    let row : Bytes = args .row .now in
-    let update : Bytes = args .update .now in
-    let k = args .k in
-    let h : length update ≤ limit = omega (arith, if1 .left) in
-    let g : length row ≤ limit = omega (arith, if2 .left) in
-    let s = sym (current-sized cs row update k h g) in
-    let u : lookUpdate cs update k ≡ toldUpdate (look-update .result) = sym (look-update-sized cs update k h) ∙ sym (look-update .ensures) in
-    c .from-row2 .ensures ∙ ap fromRow (c .before .look-up2 .ensures ∙ look-up-sized cs row k g) ∙ sym (current-chapter cs row update k (u ∙ ap toldUpdate (enum-told3 .given .1))) ∙ s
+    let a = c .before .before .before .before .before .before .before .before .before in
+    c .from-row2 .ensures ∙ ap fromRow (c .before .look-up2 .ensures ∙ look-up-sized _ _ _ (row-within (c .before .before .before .before .before)))
+    ∙ sym (current-chapter (columnsIn (a .args .columns)) (a .args .row .now) (a .args .update .now) (a .args .k) (told (c .before .before .before .before) ∙ ap toldUpdate (c .before .before .enum-told3 .given .1))) ∙ same (c .before .before .before .before .before)
 
 pub current-spec : {M : Type 1} → statement M
 current-spec =

@@ -1,18 +1,18 @@
 -- The loop stands where the walk over the columns before i has come to.
 -- Assumes nothing.
 use Prim.Native.Nat.{ℕ, _≤_, _<_, _-_, _+_, min}
-use mathlib.Core.Path.{_≡_, refl, sym, ap, _∙_}
-use mathlib.Core.Bool.{Bool, true, false}
+use mathlib.Core.Path.{_≡_, sym, ap, _∙_}
+use mathlib.Core.Bool.{Bool}
 use mathlib.Core.List.{List}
 use native.Mathlib.Omega.{arith}
-use lib.ListN.{length}
-use lib.Dec.{ltb}
-use Rattle.wire.specs.Read.{Bytes, Read, ok, bad}
+use lib.ListN.{length, getD}
+use Rattle.wire.specs.Read.{ok}
 use Rattle.column.specs.declared.column.Column.{Column}
+use Rattle.column.specs.Columns.{isNullable}
 use Rattle.column.specs.Fields.{fieldAt, toldField}
 use Rattle.column.specs.Layout.{columnsFrom}
-use Rattle.row.specs.Presence.{Mark, mark, one, bitOf, marks, markOf, present}
-use Rattle.row.specs.Rows.{place, walk}
+use Rattle.row.specs.Presence.{one, bitOf, marks, markOf, present, noColumn}
+use Rattle.row.specs.Rows.{place, walk, step}
 use Rattle.row.proofs.Laws.{bit-zero, length-marks, walk-zero, walk-least, walk-ended, columns-next, step-absent, step-field, step-refused}
 use Rattle.row.proofs.Arrays.{length-from, asked, marked, bit-on, few-prefixes}
 use borrow.Author.Needs.{needs}
@@ -25,41 +25,98 @@ Inv-loop codes flags maxima n map row start k last bit₀ position₀ prefixes�
 abbrev μ-loop : tie.MeasureT-loop
 μ-loop codes flags maxima n map row start k last bit₀ position₀ prefixes₀ i₀ bit position prefixes i = last - i
 
+-- the columns of a call
+abbrev cs : tie.Start Inv-loop μ-loop → List Column
+cs a = columnsFrom (a .args .n) 0 (a .args .codes .now) (a .args .flags .now) (a .args .maxima .now)
+
+-- column i is one of them
+counted : (a : tie.After-column-of Inv-loop μ-loop) → a .before .before .loop .i < a .before .before .before .before .before .before .args .n
+counted a = omega (arith, a .before .loop-test .taken, a .before .before .loop .inv .4)
+
+-- the bit of the column behind it
+bit-behind : (a : tie.After-column-of Inv-loop μ-loop) {t : Bool} {o : ℕ} → t ≡ isNullable (a .column-of .result) → o ≡ one t →
+    (a .before .before .loop .bit + o ≡ bitOf (cs (a .before .before .before .before .before .before)) (a .before .before .loop .i + 1)) × (a .before .before .loop .bit + o ≤ a .before .before .loop .i + 1)
+bit-behind a e f =
+    bit-on (a .before .before .before .before .before .before .args .codes .now) (a .before .before .before .before .before .before .args .flags .now) (a .before .before .before .before .before .before .args .maxima .now) (a .before .before .before .before .before .before .args .n) (a .before .before .loop .i) (a .before .before .loop .bit) (a .column-of .result) (counted a) (a .before .before .loop .inv .1) (a .before .before .loop .inv .2) (a .column-of .ensures) e f
+
+-- the walk over it is a step
+steps : (a : tie.After-column-of Inv-loop μ-loop) →
+    walk (present (a .before .before .before .before .before .before .args .map .now)) (a .before .before .before .before .before .before .args .row .now) (a .before .before .loop .i + 1) (marks 0 (cs (a .before .before .before .before .before .before))) (place (a .before .before .before .before .before .before .args .start) 0)
+    ≡ step (present (a .before .before .before .before .before .before .args .map .now)) (a .before .before .before .before .before .before .args .row .now) (markOf (cs (a .before .before .before .before .before .before)) (a .before .before .loop .i)) (place (a .before .before .loop .position) (a .before .before .loop .prefixes))
+steps a =
+    columns-next (present (a .before .before .before .before .before .before .args .map .now)) (a .before .before .before .before .before .before .args .row .now) (cs (a .before .before .before .before .before .before)) (a .before .before .loop .i) (place (a .before .before .before .before .before .before .args .start) 0) (rw (length-from (a .before .before .before .before .before .before .args .codes .now) (a .before .before .before .before .before .before .args .flags .now) (a .before .before .before .before .before .before .args .maxima .now) (a .before .before .before .before .before .before .args .n) 0) (counted a)) (a .before .before .loop .inv .7)
+
+-- whether it has a field, and which
+stands : (a : tie.After-is-present Inv-loop μ-loop) → present (a .before .before .before .before .before .before .before .args .map .now) (markOf (cs (a .before .before .before .before .before .before .before)) (a .before .before .before .loop .i)) ≡ a .is-present .result
+stands a =
+    marked (a .before .before .before .before .before .before .before .args .codes .now) (a .before .before .before .before .before .before .before .args .flags .now) (a .before .before .before .before .before .before .before .args .maxima .now) (present (a .before .before .before .before .before .before .before .args .map .now)) (a .before .before .before .before .before .before .before .args .n) (a .before .before .before .loop .i) _ _ (counted (a .before)) (a .before .column-of .ensures) (a .before .before .before .loop .inv .2) (a .is-present .ensures)
+
+read : (a : tie.After-field-at Inv-loop μ-loop) → fieldAt (getD (cs (a .before .before .before .before .before .before .before .before .before)) (a .before .before .before .before .before .loop .i) noColumn) (a .before .before .before .before .before .before .before .before .before .args .row .now) (a .before .before .before .before .before .loop .position) ≡ toldField (a .field-at .result)
+read a =
+    asked (a .before .before .before .before .before .before .before .before .before .args .codes .now) (a .before .before .before .before .before .before .before .before .before .args .flags .now) (a .before .before .before .before .before .before .before .before .before .args .maxima .now) (λ (x : Column). fieldAt x (a .before .before .before .before .before .before .before .before .before .args .row .now) (a .before .before .before .before .before .loop .position)) (a .before .before .before .before .before .before .before .before .before .args .n) (a .before .before .before .before .before .loop .i) (a .before .before .before .column-of .result) (counted (a .before .before .before))
+    (a .before .before .before .column-of .ensures) (a .field-at .ensures)
+
+few : (a : tie.After-f Inv-loop μ-loop) → a .f .given .0 .0 .prefixes ≤ 1
+few a = few-prefixes (a .before .before .before .before .before .column-of .result) (a .before .before .before .before .before .before .before .before .before .before .before .args .row .now) (a .before .before .before .before .before .before .before .loop .position) (sym (a .before .before .field-at .ensures) ∙ ap toldField (a .f .given .1))
+
 loop-holds : tie.Need-loop-holds Inv-loop μ-loop
 loop-holds c = (search needs, search needs, sym (bit-zero _), search needs, search needs, search needs, search needs, walk-zero _ _ _ _)
 
 returns : tie.Need-returns Inv-loop μ-loop
 returns c =
-    let t : c .before .before .before .before .before .before .before .before .loop .i < c .before .before .before .before .before .before .before .before .before .before .before .before .args .n = omega (arith, c .before .before .before .before .before .before .before .loop-test .taken, c .before .before .before .before .before .before .before .before .loop .inv .4) in
-    sym (walk-ended (present (c .before .before .before .before .before .before .before .before .before .before .before .before .args .map .now)) (c .before .before .before .before .before .before .before .before .before .before .before .before .args .row .now) (c .before .before .before .before .before .before .before .before .loop .i + 1) (c .before .before .before .before .before .before .before .before .before .before .before .before .args .k) (marks 0 (columnsFrom (c .before .before .before .before .before .before .before .before .before .before .before .before .args .n) 0 (c .before .before .before .before .before .before .before .before .before .before .before .before .args .codes .now) (c .before .before .before .before .before .before .before .before .before .before .before .before .args .flags .now) (c .before .before .before .before .before .before .before .before .before .before .before .before .args .maxima .now))) (place (c .before .before .before .before .before .before .before .before .before .before .before .before .args .start) 0) (omega (arith, c .before .before .before .before .before .before .before .loop-test .taken, c .before .before .before .before .before .before .before .before .loop .inv .5)) (columns-next (present (c .before .before .before .before .before .before .before .before .before .before .before .before .args .map .now)) (c .before .before .before .before .before .before .before .before .before .before .before .before .args .row .now) (columnsFrom (c .before .before .before .before .before .before .before .before .before .before .before .before .args .n) 0 (c .before .before .before .before .before .before .before .before .before .before .before .before .args .codes .now) (c .before .before .before .before .before .before .before .before .before .before .before .before .args .flags .now) (c .before .before .before .before .before .before .before .before .before .before .before .before .args .maxima .now)) (c .before .before .before .before .before .before .before .before .loop .i) (place (c .before .before .before .before .before .before .before .before .before .before .before .before .args .start) 0) (rw (length-from (c .before .before .before .before .before .before .before .before .before .before .before .before .args .codes .now) (c .before .before .before .before .before .before .before .before .before .before .before .before .args .flags .now) (c .before .before .before .before .before .before .before .before .before .before .before .before .args .maxima .now) (c .before .before .before .before .before .before .before .before .before .before .before .before .args .n) 0) t) (c .before .before .before .before .before .before .before .before .loop .inv .7) ∙ step-refused (present (c .before .before .before .before .before .before .before .before .before .before .before .before .args .map .now)) (c .before .before .before .before .before .before .before .before .before .before .before .before .args .row .now) (markOf (columnsFrom (c .before .before .before .before .before .before .before .before .before .before .before .before .args .n) 0 (c .before .before .before .before .before .before .before .before .before .before .before .before .args .codes .now) (c .before .before .before .before .before .before .before .before .before .before .before .before .args .flags .now) (c .before .before .before .before .before .before .before .before .before .before .before .before .args .maxima .now)) (c .before .before .before .before .before .before .before .before .loop .i)) (place (c .before .before .before .before .before .before .before .before .loop .position) (c .before .before .before .before .before .before .before .before .loop .prefixes)) (marked (c .before .before .before .before .before .before .before .before .before .before .before .before .args .codes .now) (c .before .before .before .before .before .before .before .before .before .before .before .before .args .flags .now) (c .before .before .before .before .before .before .before .before .before .before .before .before .args .maxima .now) (present (c .before .before .before .before .before .before .before .before .before .before .before .before .args .map .now)) (c .before .before .before .before .before .before .before .before .before .before .before .before .args .n) (c .before .before .before .before .before .before .before .before .loop .i) _ _ t (c .before .before .before .before .before .before .column-of .ensures) (c .before .before .before .before .before .before .before .before .loop .inv .2) (c .before .before .before .before .before .is-present .ensures) ∙ c .before .before .before .before .if1 .taken) (asked (c .before .before .before .before .before .before .before .before .before .before .before .before .args .codes .now) (c .before .before .before .before .before .before .before .before .before .before .before .before .args .flags .now) (c .before .before .before .before .before .before .before .before .before .before .before .before .args .maxima .now) (λ (x : Column). fieldAt x (c .before .before .before .before .before .before .before .before .before .before .before .before .args .row .now) (c .before .before .before .before .before .before .before .before .loop .position)) (c .before .before .before .before .before .before .before .before .before .before .before .before .args .n) (c .before .before .before .before .before .before .before .before .loop .i) (c .before .before .before .before .before .before .column-of .result) t (c .before .before .before .before .before .before .column-of .ensures) refl ∙ sym (c .before .before .before .field-at .ensures) ∙ ap toldField (c .before .e .given .1))))
+    sym (walk-ended (present (c .before .before .before .before .before .before .before .before .before .before .before .before .args .map .now)) (c .before .before .before .before .before .before .before .before .before .before .before .before .args .row .now) (c .before .before .before .before .before .before .before .before .loop .i + 1) (c .before .before .before .before .before .before .before .before .before .before .before .before .args .k) (marks 0 (cs (c .before .before .before .before .before .before .before .before .before .before .before .before))) (place (c .before .before .before .before .before .before .before .before .before .before .before .before .args .start) 0) (omega (arith, c .before .before .before .before .before .before .before .loop-test .taken, c .before .before .before .before .before .before .before .before .loop .inv .5))
+    (steps (c .before .before .before .before .before .before)
+    ∙ step-refused (present (c .before .before .before .before .before .before .before .before .before .before .before .before .args .map .now)) (c .before .before .before .before .before .before .before .before .before .before .before .before .args .row .now) (markOf (cs (c .before .before .before .before .before .before .before .before .before .before .before .before)) (c .before .before .before .before .before .before .before .before .loop .i)) (place (c .before .before .before .before .before .before .before .before .loop .position) (c .before .before .before .before .before .before .before .before .loop .prefixes)) (stands (c .before .before .before .before .before) ∙ c .before .before .before .before .if1 .taken)
+    (read (c .before .before .before) ∙ ap toldField (c .before .e .given .1))))
 
 add-prefixes : tie.Need-add-prefixes Inv-loop μ-loop
-add-prefixes c = let q = few-prefixes (c .before .before .before .before .before .before .before .column-of .result) (c .before .before .before .before .before .before .before .before .before .before .before .before .before .args .row .now) (c .before .before .before .before .before .before .before .before .before .loop .position) (sym (c .before .before .before .before .field-at .ensures) ∙ ap toldField (c .before .before .f .given .1)) in search needs
+add-prefixes c = let q = few (c .before .before) in search needs
 
 add-bit : tie.Need-add-bit Inv-loop μ-loop
-add-bit c = let t : c .before .before .before .before .before .before .before .before .before .before .before .loop .i < c .before .before .before .before .before .before .before .before .before .before .before .before .before .before .before .args .n = omega (arith, c .before .before .before .before .before .before .before .before .before .before .loop-test .taken, c .before .before .before .before .before .before .before .before .before .before .before .loop .inv .4) in let e = bit-on (c .before .before .before .before .before .before .before .before .before .before .before .before .before .before .before .args .codes .now) (c .before .before .before .before .before .before .before .before .before .before .before .before .before .before .before .args .flags .now) (c .before .before .before .before .before .before .before .before .before .before .before .before .before .before .before .args .maxima .now) (c .before .before .before .before .before .before .before .before .before .before .before .before .before .before .before .args .n) (c .before .before .before .before .before .before .before .before .before .before .before .loop .i) (c .before .before .before .before .before .before .before .before .before .before .before .loop .bit) (c .before .before .before .before .before .before .before .before .before .column-of .result) t (c .before .before .before .before .before .before .before .before .before .before .before .loop .inv .1) (c .before .before .before .before .before .before .before .before .before .before .before .loop .inv .2) (c .before .before .before .before .before .before .before .before .before .column-of .ensures) (c .before .is-nullable .ensures) (c .one .ensures) in search needs
+add-bit c = let e = bit-behind (c .before .before .before .before .before .before .before .before .before) (c .before .is-nullable .ensures) (c .one .ensures) in search needs
 
 loop-again : tie.Need-loop-again Inv-loop μ-loop
 loop-again c =
-    let t : c .before .before .before .before .before .before .before .before .before .before .before .loop .i < c .before .before .before .before .before .before .before .before .before .before .before .before .before .before .before .args .n = omega (arith, c .before .before .before .before .before .before .before .before .before .before .loop-test .taken, c .before .before .before .before .before .before .before .before .before .before .before .loop .inv .4) in
-    let e = bit-on (c .before .before .before .before .before .before .before .before .before .before .before .before .before .before .before .args .codes .now) (c .before .before .before .before .before .before .before .before .before .before .before .before .before .before .before .args .flags .now) (c .before .before .before .before .before .before .before .before .before .before .before .before .before .before .before .args .maxima .now) (c .before .before .before .before .before .before .before .before .before .before .before .before .before .before .before .args .n) (c .before .before .before .before .before .before .before .before .before .before .before .loop .i) (c .before .before .before .before .before .before .before .before .before .before .before .loop .bit) (c .before .before .before .before .before .before .before .before .before .column-of .result) t (c .before .before .before .before .before .before .before .before .before .before .before .loop .inv .1) (c .before .before .before .before .before .before .before .before .before .before .before .loop .inv .2) (c .before .before .before .before .before .before .before .before .before .column-of .ensures) (c .before .is-nullable .ensures) (c .one .ensures) in
-    let q = few-prefixes (c .before .before .before .before .before .before .before .before .before .column-of .result) (c .before .before .before .before .before .before .before .before .before .before .before .before .before .before .before .args .row .now) (c .before .before .before .before .before .before .before .before .before .before .before .loop .position) (sym (c .before .before .before .before .before .before .field-at .ensures) ∙ ap toldField (c .before .before .before .before .f .given .1)) in
-    (search needs, e .1, e .0, search needs, search needs, search needs, search needs, columns-next (present (c .before .before .before .before .before .before .before .before .before .before .before .before .before .before .before .args .map .now)) (c .before .before .before .before .before .before .before .before .before .before .before .before .before .before .before .args .row .now) (columnsFrom (c .before .before .before .before .before .before .before .before .before .before .before .before .before .before .before .args .n) 0 (c .before .before .before .before .before .before .before .before .before .before .before .before .before .before .before .args .codes .now) (c .before .before .before .before .before .before .before .before .before .before .before .before .before .before .before .args .flags .now) (c .before .before .before .before .before .before .before .before .before .before .before .before .before .before .before .args .maxima .now)) (c .before .before .before .before .before .before .before .before .before .before .before .loop .i) (place (c .before .before .before .before .before .before .before .before .before .before .before .before .before .before .before .args .start) 0) (rw (length-from (c .before .before .before .before .before .before .before .before .before .before .before .before .before .before .before .args .codes .now) (c .before .before .before .before .before .before .before .before .before .before .before .before .before .before .before .args .flags .now) (c .before .before .before .before .before .before .before .before .before .before .before .before .before .before .before .args .maxima .now) (c .before .before .before .before .before .before .before .before .before .before .before .before .before .before .before .args .n) 0) t) (c .before .before .before .before .before .before .before .before .before .before .before .loop .inv .7) ∙ step-field (present (c .before .before .before .before .before .before .before .before .before .before .before .before .before .before .before .args .map .now)) (c .before .before .before .before .before .before .before .before .before .before .before .before .before .before .before .args .row .now) (markOf (columnsFrom (c .before .before .before .before .before .before .before .before .before .before .before .before .before .before .before .args .n) 0 (c .before .before .before .before .before .before .before .before .before .before .before .before .before .before .before .args .codes .now) (c .before .before .before .before .before .before .before .before .before .before .before .before .before .before .before .args .flags .now) (c .before .before .before .before .before .before .before .before .before .before .before .before .before .before .before .args .maxima .now)) (c .before .before .before .before .before .before .before .before .before .before .before .loop .i)) (place (c .before .before .before .before .before .before .before .before .before .before .before .loop .position) (c .before .before .before .before .before .before .before .before .before .before .before .loop .prefixes)) _ (marked (c .before .before .before .before .before .before .before .before .before .before .before .before .before .before .before .args .codes .now) (c .before .before .before .before .before .before .before .before .before .before .before .before .before .before .before .args .flags .now) (c .before .before .before .before .before .before .before .before .before .before .before .before .before .before .before .args .maxima .now) (present (c .before .before .before .before .before .before .before .before .before .before .before .before .before .before .before .args .map .now)) (c .before .before .before .before .before .before .before .before .before .before .before .before .before .before .before .args .n) (c .before .before .before .before .before .before .before .before .before .before .before .loop .i) _ _ t (c .before .before .before .before .before .before .before .before .before .column-of .ensures) (c .before .before .before .before .before .before .before .before .before .before .before .loop .inv .2) (c .before .before .before .before .before .before .before .before .is-present .ensures) ∙ c .before .before .before .before .before .before .before .if1 .taken) (asked (c .before .before .before .before .before .before .before .before .before .before .before .before .before .before .before .args .codes .now) (c .before .before .before .before .before .before .before .before .before .before .before .before .before .before .before .args .flags .now) (c .before .before .before .before .before .before .before .before .before .before .before .before .before .before .before .args .maxima .now) (λ (x : Column). fieldAt x (c .before .before .before .before .before .before .before .before .before .before .before .before .before .before .before .args .row .now) (c .before .before .before .before .before .before .before .before .before .before .before .loop .position)) (c .before .before .before .before .before .before .before .before .before .before .before .before .before .before .before .args .n) (c .before .before .before .before .before .before .before .before .before .before .before .loop .i) (c .before .before .before .before .before .before .before .before .before .column-of .result) t (c .before .before .before .before .before .before .before .before .before .column-of .ensures) refl ∙ sym (c .before .before .before .before .before .before .field-at .ensures) ∙ ap toldField (c .before .before .before .before .f .given .1)))
+    let e = bit-behind (c .before .before .before .before .before .before .before .before .before) (c .before .is-nullable .ensures) (c .one .ensures) in
+    let t = counted (c .before .before .before .before .before .before .before .before .before) in
+    let q = few (c .before .before .before .before) in (
+      search needs,
+      e .1,
+      e .0,
+      search needs,
+      search needs,
+      search needs,
+      search needs,
+      steps (c .before .before .before .before .before .before .before .before .before)
+          ∙ step-field (present (c .before .before .before .before .before .before .before .before .before .before .before .before .before .before .before .args .map .now)) (c .before .before .before .before .before .before .before .before .before .before .before .before .before .before .before .args .row .now) (markOf (cs (c .before .before .before .before .before .before .before .before .before .before .before .before .before .before .before)) (c .before .before .before .before .before .before .before .before .before .before .before .loop .i)) (place (c .before .before .before .before .before .before .before .before .before .before .before .loop .position) (c .before .before .before .before .before .before .before .before .before .before .before .loop .prefixes)) _ (stands (c .before .before .before .before .before .before .before .before) ∙ c .before .before .before .before .before .before .before .if1 .taken)
+          (read (c .before .before .before .before .before .before) ∙ ap toldField (c .before .before .before .before .f .given .1)),
+    )
 
 add-bit-2 : tie.Need-add-bit-2 Inv-loop μ-loop
-add-bit-2 c = let t : c .before .before .before .before .before .before .loop .i < c .before .before .before .before .before .before .before .before .before .before .args .n = omega (arith, c .before .before .before .before .before .loop-test .taken, c .before .before .before .before .before .before .loop .inv .4) in let e = bit-on (c .before .before .before .before .before .before .before .before .before .before .args .codes .now) (c .before .before .before .before .before .before .before .before .before .before .args .flags .now) (c .before .before .before .before .before .before .before .before .before .before .args .maxima .now) (c .before .before .before .before .before .before .before .before .before .before .args .n) (c .before .before .before .before .before .before .loop .i) (c .before .before .before .before .before .before .loop .bit) (c .before .before .before .before .column-of .result) t (c .before .before .before .before .before .before .loop .inv .1) (c .before .before .before .before .before .before .loop .inv .2) (c .before .before .before .before .column-of .ensures) (c .before .is-nullable2 .ensures) (c .one2 .ensures) in search needs
+add-bit-2 c = let e = bit-behind (c .before .before .before .before) (c .before .is-nullable2 .ensures) (c .one2 .ensures) in search needs
 
 loop-again-2 : tie.Need-loop-again-2 Inv-loop μ-loop
 loop-again-2 c =
-    let t : c .before .before .before .before .before .before .loop .i < c .before .before .before .before .before .before .before .before .before .before .args .n = omega (arith, c .before .before .before .before .before .loop-test .taken, c .before .before .before .before .before .before .loop .inv .4) in
-    let e = bit-on (c .before .before .before .before .before .before .before .before .before .before .args .codes .now) (c .before .before .before .before .before .before .before .before .before .before .args .flags .now) (c .before .before .before .before .before .before .before .before .before .before .args .maxima .now) (c .before .before .before .before .before .before .before .before .before .before .args .n) (c .before .before .before .before .before .before .loop .i) (c .before .before .before .before .before .before .loop .bit) (c .before .before .before .before .column-of .result) t (c .before .before .before .before .before .before .loop .inv .1) (c .before .before .before .before .before .before .loop .inv .2) (c .before .before .before .before .column-of .ensures) (c .before .is-nullable2 .ensures) (c .one2 .ensures) in
-    (search needs, e .1, e .0, search needs, search needs, search needs, search needs, columns-next (present (c .before .before .before .before .before .before .before .before .before .before .args .map .now)) (c .before .before .before .before .before .before .before .before .before .before .args .row .now) (columnsFrom (c .before .before .before .before .before .before .before .before .before .before .args .n) 0 (c .before .before .before .before .before .before .before .before .before .before .args .codes .now) (c .before .before .before .before .before .before .before .before .before .before .args .flags .now) (c .before .before .before .before .before .before .before .before .before .before .args .maxima .now)) (c .before .before .before .before .before .before .loop .i) (place (c .before .before .before .before .before .before .before .before .before .before .args .start) 0) (rw (length-from (c .before .before .before .before .before .before .before .before .before .before .args .codes .now) (c .before .before .before .before .before .before .before .before .before .before .args .flags .now) (c .before .before .before .before .before .before .before .before .before .before .args .maxima .now) (c .before .before .before .before .before .before .before .before .before .before .args .n) 0) t) (c .before .before .before .before .before .before .loop .inv .7) ∙ step-absent (present (c .before .before .before .before .before .before .before .before .before .before .args .map .now)) (c .before .before .before .before .before .before .before .before .before .before .args .row .now) (markOf (columnsFrom (c .before .before .before .before .before .before .before .before .before .before .args .n) 0 (c .before .before .before .before .before .before .before .before .before .before .args .codes .now) (c .before .before .before .before .before .before .before .before .before .before .args .flags .now) (c .before .before .before .before .before .before .before .before .before .before .args .maxima .now)) (c .before .before .before .before .before .before .loop .i)) (place (c .before .before .before .before .before .before .loop .position) (c .before .before .before .before .before .before .loop .prefixes)) (marked (c .before .before .before .before .before .before .before .before .before .before .args .codes .now) (c .before .before .before .before .before .before .before .before .before .before .args .flags .now) (c .before .before .before .before .before .before .before .before .before .before .args .maxima .now) (present (c .before .before .before .before .before .before .before .before .before .before .args .map .now)) (c .before .before .before .before .before .before .before .before .before .before .args .n) (c .before .before .before .before .before .before .loop .i) _ _ t (c .before .before .before .before .column-of .ensures) (c .before .before .before .before .before .before .loop .inv .2) (c .before .before .before .is-present .ensures) ∙ c .before .before .if1 .left))
+    let e = bit-behind (c .before .before .before .before) (c .before .is-nullable2 .ensures) (c .one2 .ensures) in
+    let t = counted (c .before .before .before .before) in (
+      search needs,
+      e .1,
+      e .0,
+      search needs,
+      search needs,
+      search needs,
+      search needs,
+      steps (c .before .before .before .before) ∙ step-absent (present (c .before .before .before .before .before .before .before .before .before .before .args .map .now)) (c .before .before .before .before .before .before .before .before .before .before .args .row .now) (markOf (cs (c .before .before .before .before .before .before .before .before .before .before)) (c .before .before .before .before .before .before .loop .i)) (place (c .before .before .before .before .before .before .loop .position) (c .before .before .before .before .before .before .loop .prefixes)) (stands (c .before .before .before) ∙ c .before .before .if1 .left),
+    )
 
 returns-2 : tie.Need-returns-2 Inv-loop μ-loop
 returns-2 c =
-    let n : length (marks 0 (columnsFrom (c .before .before .before .before .before .args .n) 0 (c .before .before .before .before .before .args .codes .now) (c .before .before .before .before .before .args .flags .now) (c .before .before .before .before .before .args .maxima .now))) ≡ c .before .before .before .before .before .args .n = length-marks 0 (columnsFrom (c .before .before .before .before .before .args .n) 0 (c .before .before .before .before .before .args .codes .now) (c .before .before .before .before .before .args .flags .now) (c .before .before .before .before .before .args .maxima .now)) ∙ length-from (c .before .before .before .before .before .args .codes .now) (c .before .before .before .before .before .args .flags .now) (c .before .before .before .before .before .args .maxima .now) (c .before .before .before .before .before .args .n) 0 in
-    let e : min (length (marks 0 (columnsFrom (c .before .before .before .before .before .args .n) 0 (c .before .before .before .before .before .args .codes .now) (c .before .before .before .before .before .args .flags .now) (c .before .before .before .before .before .args .maxima .now)))) (c .before .before .before .before .before .args .k) ≡ c .before .loop .i = omega (arith, n, c .before .before .lesser .ensures, c .loop-test .left, c .before .loop .inv .3) in
-    sym (walk-least (present (c .before .before .before .before .before .args .map .now)) (c .before .before .before .before .before .args .row .now) (c .before .before .before .before .before .args .k) (marks 0 (columnsFrom (c .before .before .before .before .before .args .n) 0 (c .before .before .before .before .before .args .codes .now) (c .before .before .before .before .before .args .flags .now) (c .before .before .before .before .before .args .maxima .now))) (place (c .before .before .before .before .before .args .start) 0) ∙ ap (λ (j : ℕ). walk (present (c .before .before .before .before .before .args .map .now)) (c .before .before .before .before .before .args .row .now) j (marks 0 (columnsFrom (c .before .before .before .before .before .args .n) 0 (c .before .before .before .before .before .args .codes .now) (c .before .before .before .before .before .args .flags .now) (c .before .before .before .before .before .args .maxima .now))) (place (c .before .before .before .before .before .args .start) 0)) e ∙ c .before .loop .inv .7)
+    let a = c .before .before .before .before .before in
+    let n : length (marks 0 (cs a)) ≡ a .args .n = length-marks 0 (cs a) ∙ length-from (a .args .codes .now) (a .args .flags .now) (a .args .maxima .now) (a .args .n) 0 in
+    let e : min (length (marks 0 (cs a))) (a .args .k) ≡ c .before .loop .i = omega (arith, n, c .before .before .lesser .ensures, c .loop-test .left, c .before .loop .inv .3) in
+    sym (walk-least (present (a .args .map .now)) (a .args .row .now) (a .args .k) (marks 0 (cs a)) (place (a .args .start) 0)
+    ∙ ap (λ (j : ℕ). walk (present (a .args .map .now)) (a .args .row .now) j (marks 0 (cs a)) (place (a .args .start) 0)) e
+    ∙ c .before .loop .inv .7)
 
 pub walk-row-spec : {M : Type 1} → statement M
 walk-row-spec =

@@ -46,33 +46,24 @@ add-t17 c =
     let loop-test = c .before .before .before .before .loop-test in
     omega (arith, pre, map-byte (args .n) (loop .i) (loop-test .taken), fits)
 
+-- what the rule says of column i
+told : (a : tie.After-is-chapter-marked Inv-loop μ-loop) → chapterMarked (drop (a .before .before .before .before .before .before .args .at) (a .before .before .before .before .before .before .args .row .now)) (mark (getD (columnsFrom (a .before .before .before .before .before .before .args .n) 0 (a .before .before .before .before .before .before .args .codes .now) (a .before .before .before .before .before .before .args .flags .now) (a .before .before .before .before .before .before .args .maxima .now)) (a .before .before .before .before .loop .i) noColumn) (a .before .before .before .before .loop .i)) ≡ a .is-chapter-marked .result
+told a =
+    asked (a .before .before .before .before .before .before .args .codes .now) (a .before .before .before .before .before .before .args .flags .now) (a .before .before .before .before .before .before .args .maxima .now) (λ (x : Column). chapterMarked (drop (a .before .before .before .before .before .before .args .at) (a .before .before .before .before .before .before .args .row .now)) (mark x (a .before .before .before .before .loop .i))) (a .before .before .before .before .before .before .args .n) (a .before .before .before .before .loop .i)
+    (a .before .before .column-of .result) (a .before .before .before .loop-test .taken) (a .before .before .column-of .ensures)
+    (a .is-chapter-marked .ensures ∙ ap (λ (m : Bytes). chapterMarked m (mark (a .before .before .column-of .result) (a .before .before .before .before .loop .i))) (rest (a .before .before .before .before .before .before .args .row .now) (a .before .before .before .before .before .before .args .at)))
+
+-- which is one of the columns
+counted : (a : tie.After-is-chapter-marked Inv-loop μ-loop) → a .before .before .before .before .loop .i < length (columnsFrom (a .before .before .before .before .before .before .args .n) 0 (a .before .before .before .before .before .before .args .codes .now) (a .before .before .before .before .before .before .args .flags .now) (a .before .before .before .before .before .before .args .maxima .now))
+counted a = omega (arith, length-from (a .before .before .before .before .before .before .args .codes .now) (a .before .before .before .before .before .before .args .flags .now) (a .before .before .before .before .before .before .args .maxima .now) (a .before .before .before .before .before .before .args .n) 0, a .before .before .before .loop-test .taken)
+
 returns : tie.Need-returns Inv-loop μ-loop
 returns c =
-    let args = c .before .before .before .before .before .before .before .args in
-    let loop = c .before .before .before .before .before .loop in
-    let loop-test = c .before .before .before .before .loop-test in
-    let column-of = c .before .before .before .column-of in
-    let is-chapter-marked = c .before .is-chapter-marked in
-    let cs : List Column = columnsFrom (args .n) 0 (args .codes .now) (args .flags .now) (args .maxima .now) in
-    let h : loop .i < length cs = omega (arith, length-from (args .codes .now) (args .flags .now) (args .maxima .now) (args .n) 0, loop-test .taken) in
-    let e : chapterMarked (drop (args .at) (args .row .now)) (mark (getD cs (loop .i) noColumn) (loop .i)) ≡ is-chapter-marked .result =
-    asked (args .codes .now) (args .flags .now) (args .maxima .now) (λ (x : Column). chapterMarked (drop (args .at) (args .row .now)) (mark x (loop .i))) (args .n) (loop .i) (column-of .result) (loop-test .taken) (column-of .ensures)
-    (is-chapter-marked .ensures ∙ ap (λ (m : Bytes). chapterMarked m (mark (column-of .result) (loop .i))) (rest (args .row .now) (args .at))) in
-    sym (loop .inv .1 ∙ rule-found cs (chapterMarked (drop (args .at) (args .row .now))) 12 (args .at) (loop .i) h (e ∙ c .if1 .taken))
+    sym (c .before .before .before .before .before .loop .inv .1 ∙ rule-found _ (chapterMarked (drop (c .before .before .before .before .before .before .before .args .at) (c .before .before .before .before .before .before .before .args .row .now))) 12 (c .before .before .before .before .before .before .before .args .at) (c .before .before .before .before .before .loop .i) (counted (c .before)) (told (c .before) ∙ c .if1 .taken))
 
 loop-again : tie.Need-loop-again Inv-loop μ-loop
 loop-again c =
-    let args = c .before .before .before .before .before .before .before .args in
-    let loop = c .before .before .before .before .before .loop in
-    let loop-test = c .before .before .before .before .loop-test in
-    let column-of = c .before .before .before .column-of in
-    let is-chapter-marked = c .before .is-chapter-marked in
-    let cs : List Column = columnsFrom (args .n) 0 (args .codes .now) (args .flags .now) (args .maxima .now) in
-    let h : loop .i < length cs = omega (arith, length-from (args .codes .now) (args .flags .now) (args .maxima .now) (args .n) 0, loop-test .taken) in
-    let e : chapterMarked (drop (args .at) (args .row .now)) (mark (getD cs (loop .i) noColumn) (loop .i)) ≡ is-chapter-marked .result =
-    asked (args .codes .now) (args .flags .now) (args .maxima .now) (λ (x : Column). chapterMarked (drop (args .at) (args .row .now)) (mark x (loop .i))) (args .n) (loop .i) (column-of .result) (loop-test .taken) (column-of .ensures)
-    (is-chapter-marked .ensures ∙ ap (λ (m : Bytes). chapterMarked m (mark (column-of .result) (loop .i))) (rest (args .row .now) (args .at))) in
-    (search needs, loop .inv .1 ∙ rule-next cs (chapterMarked (drop (args .at) (args .row .now))) 12 (args .at) (loop .i) h (e ∙ c .if1 .left))
+    (search needs, c .before .before .before .before .before .loop .inv .1 ∙ rule-next _ (chapterMarked (drop (c .before .before .before .before .before .before .before .args .at) (c .before .before .before .before .before .before .before .args .row .now))) 12 (c .before .before .before .before .before .before .before .args .at) (c .before .before .before .before .before .loop .i) (counted (c .before)) (told (c .before) ∙ c .if1 .left))
 
 returns-2 : tie.Need-returns-2 Inv-loop μ-loop
 returns-2 c =

@@ -56,35 +56,26 @@ add-t22 c =
     let loop-test = c .before .before .before .before .before .loop-test in
     omega (arith, pre, map-byte (args .n) (loop .i) (loop-test .taken), fits)
 
+-- what the rule says of column i
+told : (a : tie.After-breaks-force Inv-loop μ-loop) → forceBroken (drop (a .before .before .before .before .before .before .before .args .at) (a .before .before .before .before .before .before .before .args .row .now)) (drop (a .before .before .before .before .before .before .before .args .force) (a .before .before .before .before .before .before .before .args .row .now)) (mark (getD (columnsFrom (a .before .before .before .before .before .before .before .args .n) 0 (a .before .before .before .before .before .before .before .args .codes .now) (a .before .before .before .before .before .before .before .args .flags .now) (a .before .before .before .before .before .before .before .args .maxima .now)) (a .before .before .before .before .before .loop .i) noColumn) (a .before .before .before .before .before .loop .i)) ≡ a .breaks-force .result
+told a =
+    asked (a .before .before .before .before .before .before .before .args .codes .now) (a .before .before .before .before .before .before .before .args .flags .now) (a .before .before .before .before .before .before .before .args .maxima .now) (λ (x : Column). forceBroken (drop (a .before .before .before .before .before .before .before .args .at) (a .before .before .before .before .before .before .before .args .row .now)) (drop (a .before .before .before .before .before .before .before .args .force) (a .before .before .before .before .before .before .before .args .row .now)) (mark x (a .before .before .before .before .before .loop .i))) (a .before .before .before .before .before .before .before .args .n) (a .before .before .before .before .before .loop .i)
+    (a .before .before .before .column-of .result) (a .before .before .before .before .loop-test .taken) (a .before .before .before .column-of .ensures)
+    (a .breaks-force .ensures
+    ∙ ap (λ (m : Bytes). forceBroken m (take (length (a .before .before .before .before .before .before .before .args .row .now) - a .before .before .before .before .before .before .before .args .force) (drop (a .before .before .before .before .before .before .before .args .force) (a .before .before .before .before .before .before .before .args .row .now))) (mark (a .before .before .before .column-of .result) (a .before .before .before .before .before .loop .i))) (rest (a .before .before .before .before .before .before .before .args .row .now) (a .before .before .before .before .before .before .before .args .at))
+    ∙ ap (λ (m : Bytes). forceBroken (drop (a .before .before .before .before .before .before .before .args .at) (a .before .before .before .before .before .before .before .args .row .now)) m (mark (a .before .before .before .column-of .result) (a .before .before .before .before .before .loop .i))) (rest (a .before .before .before .before .before .before .before .args .row .now) (a .before .before .before .before .before .before .before .args .force)))
+
+-- which is one of the columns
+counted : (a : tie.After-breaks-force Inv-loop μ-loop) → a .before .before .before .before .before .loop .i < length (columnsFrom (a .before .before .before .before .before .before .before .args .n) 0 (a .before .before .before .before .before .before .before .args .codes .now) (a .before .before .before .before .before .before .before .args .flags .now) (a .before .before .before .before .before .before .before .args .maxima .now))
+counted a = omega (arith, length-from (a .before .before .before .before .before .before .before .args .codes .now) (a .before .before .before .before .before .before .before .args .flags .now) (a .before .before .before .before .before .before .before .args .maxima .now) (a .before .before .before .before .before .before .before .args .n) 0, a .before .before .before .before .loop-test .taken)
+
 returns : tie.Need-returns Inv-loop μ-loop
 returns c =
-    let args = c .before .before .before .before .before .before .before .before .args in
-    let loop = c .before .before .before .before .before .before .loop in
-    let loop-test = c .before .before .before .before .before .loop-test in
-    let column-of = c .before .before .before .before .column-of in
-    let breaks-force = c .before .breaks-force in
-    let cs : List Column = columnsFrom (args .n) 0 (args .codes .now) (args .flags .now) (args .maxima .now) in
-    let h : loop .i < length cs = omega (arith, length-from (args .codes .now) (args .flags .now) (args .maxima .now) (args .n) 0, loop-test .taken) in
-    let broken : Mark → Bool = forceBroken (drop (args .at) (args .row .now)) (drop (args .force) (args .row .now)) in
-    let e : broken (mark (getD cs (loop .i) noColumn) (loop .i)) ≡ breaks-force .result =
-    asked (args .codes .now) (args .flags .now) (args .maxima .now) (λ (x : Column). broken (mark x (loop .i))) (args .n) (loop .i) (column-of .result) (loop-test .taken) (column-of .ensures)
-    (breaks-force .ensures ∙ ap (λ (m : Bytes). forceBroken m (take (length (args .row .now) - args .force) (drop (args .force) (args .row .now))) (mark (column-of .result) (loop .i))) (rest (args .row .now) (args .at)) ∙ ap (λ (m : Bytes). forceBroken (drop (args .at) (args .row .now)) m (mark (column-of .result) (loop .i))) (rest (args .row .now) (args .force))) in
-    sym (loop .inv .1 ∙ rule-found cs broken 13 (args .force) (loop .i) h (e ∙ c .if1 .taken))
+    sym (c .before .before .before .before .before .before .loop .inv .1 ∙ rule-found _ (forceBroken (drop (c .before .before .before .before .before .before .before .before .args .at) (c .before .before .before .before .before .before .before .before .args .row .now)) (drop (c .before .before .before .before .before .before .before .before .args .force) (c .before .before .before .before .before .before .before .before .args .row .now))) 13 (c .before .before .before .before .before .before .before .before .args .force) (c .before .before .before .before .before .before .loop .i) (counted (c .before)) (told (c .before) ∙ c .if1 .taken))
 
 loop-again : tie.Need-loop-again Inv-loop μ-loop
 loop-again c =
-    let args = c .before .before .before .before .before .before .before .before .args in
-    let loop = c .before .before .before .before .before .before .loop in
-    let loop-test = c .before .before .before .before .before .loop-test in
-    let column-of = c .before .before .before .before .column-of in
-    let breaks-force = c .before .breaks-force in
-    let cs : List Column = columnsFrom (args .n) 0 (args .codes .now) (args .flags .now) (args .maxima .now) in
-    let h : loop .i < length cs = omega (arith, length-from (args .codes .now) (args .flags .now) (args .maxima .now) (args .n) 0, loop-test .taken) in
-    let broken : Mark → Bool = forceBroken (drop (args .at) (args .row .now)) (drop (args .force) (args .row .now)) in
-    let e : broken (mark (getD cs (loop .i) noColumn) (loop .i)) ≡ breaks-force .result =
-    asked (args .codes .now) (args .flags .now) (args .maxima .now) (λ (x : Column). broken (mark x (loop .i))) (args .n) (loop .i) (column-of .result) (loop-test .taken) (column-of .ensures)
-    (breaks-force .ensures ∙ ap (λ (m : Bytes). forceBroken m (take (length (args .row .now) - args .force) (drop (args .force) (args .row .now))) (mark (column-of .result) (loop .i))) (rest (args .row .now) (args .at)) ∙ ap (λ (m : Bytes). forceBroken (drop (args .at) (args .row .now)) m (mark (column-of .result) (loop .i))) (rest (args .row .now) (args .force))) in
-    (search needs, loop .inv .1 ∙ rule-next cs broken 13 (args .force) (loop .i) h (e ∙ c .if1 .left))
+    (search needs, c .before .before .before .before .before .before .loop .inv .1 ∙ rule-next _ (forceBroken (drop (c .before .before .before .before .before .before .before .before .args .at) (c .before .before .before .before .before .before .before .before .args .row .now)) (drop (c .before .before .before .before .before .before .before .before .args .force) (c .before .before .before .before .before .before .before .before .args .row .now))) 13 (c .before .before .before .before .before .before .before .before .args .force) (c .before .before .before .before .before .before .loop .i) (counted (c .before)) (told (c .before) ∙ c .if1 .left))
 
 returns-2 : tie.Need-returns-2 Inv-loop μ-loop
 returns-2 c =

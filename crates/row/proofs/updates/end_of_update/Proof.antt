@@ -1,18 +1,16 @@
 -- The maps, then the walk over all columns.
 -- Assumes nothing.
-use Prim.Native.Nat.{ℕ, _≤_, _<_, _+_, _*_, _-_}
-use mathlib.Core.Path.{_≡_, refl, sym, ap, _∙_}
-use mathlib.Core.Bool.{Bool}
+use Prim.Native.Nat.{ℕ, _≤_, _+_, _*_, _-_}
+use mathlib.Core.Path.{_≡_, sym, ap, _∙_}
 use mathlib.Core.List.{List}
 use native.Mathlib.Omega.{arith}
 use lib.ListN.{length, take, drop}
-use Rattle.wire.specs.Read.{Bytes, Read, ok, bad}
-use Rattle.wire.specs.Bits.{mapBytes}
+use Rattle.wire.specs.Read.{Bytes, ok}
 use Rattle.wire.specs.Integers.{toldInt}
 use Rattle.column.specs.declared.column.Column.{Column}
 use Rattle.column.specs.Layout.{columnsFrom}
-use Rattle.row.specs.Rows.{place, walk, Place}
-use Rattle.row.specs.Updates.{numbered, updateBytes, carried, updateOpened, updateWalked, updateEnd}
+use Rattle.row.specs.Rows.{place, walk}
+use Rattle.row.specs.Updates.{numbered, updateBytes, carried, updateOpened, updateWalked}
 use Rattle.row.specs.Told.{toldWalk}
 use Rattle.row.proofs.UpdateLaws.{update-walked-from, update-end-closed, update-end-refused, update-end-reached}
 use Rattle.row.proofs.UpdateFound.{update-opened-ok}
@@ -21,136 +19,70 @@ use borrow.Author.Needs.{needs}
 use Rattle.row.proofs.updates.end_of_update.Statement.{statement}
 use Rattle.row.proofs.updates.end_of_update.Tie as tie
 
+-- the columns of a call
+abbrev cs : tie.Start → List Column
+cs a = columnsFrom (a .args .n) 0 (a .args .codes .now) (a .args .flags .now) (a .args .maxima .now)
+
+-- the maps keep all rules
+opens : (a : tie.After-start) → updateOpened (cs (a .before .before .before .before)) (a .before .before .before .before .args .row .now) (a .before .before .before .before .args .at) ≡ ok (a .start .given .0 .0)
+opens a = sym (a .before .before .open-update .ensures) ∙ ap toldInt (a .start .given .1)
+
+-- where the fields start, inside the row
+starts : (a : tie.After-start) →
+    (a .start .given .0 .0 ≡ a .before .before .before .before .args .at + 2 * updateBytes (cs (a .before .before .before .before))) × (a .start .given .0 .0 ≤ length (a .before .before .before .before .args .row .now))
+starts a = update-opened-ok (cs (a .before .before .before .before)) (a .before .before .before .before .args .row .now) (a .before .before .before .before .args .at) (a .start .given .0 .0) (opens a)
+
+-- the bytes of a map
+sized : (a : tie.After-map-bytes) → a .map-bytes .result ≡ updateBytes (cs (a .before .before .before .before .before .before))
+sized a = a .map-bytes .ensures ∙ sym (update-bytes (a .before .before .before .before .before .before .args .codes .now) (a .before .before .before .before .before .before .args .flags .now) (a .before .before .before .before .before .before .args .maxima .now) (a .before .before .before .before .before .before .args .n))
+
+inside : (a : tie.After-map-bytes) → a .before .before .before .before .before .before .args .at + a .map-bytes .result ≤ length (a .before .before .before .before .before .before .args .row .now)
+inside a = omega (arith, sized a, starts (a .before .before) .0, starts (a .before .before) .1)
+
+-- the walk over all columns
+walked : (a : tie.After-walk-update) → updateWalked (cs (a .before .before .before .before .before .before .before .before .before)) (a .before .before .before .before .before .before .before .before .before .args .row .now) (a .before .before .before .before .before .before .before .before .before .args .at) (length (cs (a .before .before .before .before .before .before .before .before .before))) ≡ toldWalk (a .walk-update .result)
+walked a =
+    let s = a .before .before .before .before .before .before .before .before .before in
+    let row : Bytes = s .args .row .now in
+    let at : ℕ = s .args .at in
+    let size : ℕ = a .before .before .before .map-bytes .result in
+    let start : ℕ = a .before .before .before .before .before .start .given .0 .0 in
+    let f : at + size ≡ at + updateBytes (cs s) = omega (arith, sized (a .before .before .before)) in
+    ap (updateWalked (cs s) row at) (length-from (s .args .codes .now) (s .args .flags .now) (s .args .maxima .now) (s .args .n) 0)
+    ∙ sym (update-walked-from (cs s) row at (s .args .n) f (starts (a .before .before .before .before .before) .0))
+    ∙ ap (λ (m : Bytes). walk (carried m (drop (at + size) row)) row (s .args .n) (numbered 0 (cs s)) (place start 0)) (sym (rest row at))
+    ∙ ap (λ (m : Bytes). walk (carried (take (length row - at) (drop at row)) m) row (s .args .n) (numbered 0 (cs s)) (place start 0)) (sym (rest row (at + size)))
+    ∙ sym (a .walk-update .ensures)
+
 add-force : tie.Need-add-force
-add-force c =
-    let args = c .before .before .before .before .before .before .args in
-    let open-update = c .before .before .before .before .open-update in
-    let the-start = c .before .before .start in
-    let map-bytes = c .map-bytes in
-    let cs : List Column = columnsFrom (args .n) 0 (args .codes .now) (args .flags .now) (args .maxima .now) in
-    let row : Bytes = args .row .now in
-    let at = args .at in
-    let start = the-start .given .0 .0 in
-    let o : updateOpened cs row at ≡ ok start = sym (open-update .ensures) ∙ ap toldInt (the-start .given .1) in
-    let (e, l) = update-opened-ok cs row at start o in
-    let size : map-bytes .result ≡ updateBytes cs = map-bytes .ensures ∙ sym (update-bytes (args .codes .now) (args .flags .now) (args .maxima .now) (args .n)) in
-    search needs
+add-force c = let h = inside c in search needs
 
 sub-walk-update : tie.Need-sub-walk-update
-sub-walk-update c =
-    let args = c .before .before .before .before .before .before .args in
-    let open-update = c .before .before .before .before .open-update in
-    let the-start = c .before .before .start in
-    let map-bytes = c .map-bytes in
-    let cs : List Column = columnsFrom (args .n) 0 (args .codes .now) (args .flags .now) (args .maxima .now) in
-    let row : Bytes = args .row .now in
-    let at = args .at in
-    let start = the-start .given .0 .0 in
-    let o : updateOpened cs row at ≡ ok start = sym (open-update .ensures) ∙ ap toldInt (the-start .given .1) in
-    let (e, l) = update-opened-ok cs row at start o in
-    let size : map-bytes .result ≡ updateBytes cs = map-bytes .ensures ∙ sym (update-bytes (args .codes .now) (args .flags .now) (args .maxima .now) (args .n)) in
-    search needs
+sub-walk-update c = omega (arith, inside c)
 
 part-walk-update-start : tie.Need-part-walk-update-start
-part-walk-update-start c =
-    let args = c .before .before .before .before .before .before .args in
-    let open-update = c .before .before .before .before .open-update in
-    let the-start = c .before .before .start in
-    let map-bytes = c .map-bytes in
-    let cs : List Column = columnsFrom (args .n) 0 (args .codes .now) (args .flags .now) (args .maxima .now) in
-    let row : Bytes = args .row .now in
-    let at = args .at in
-    let start = the-start .given .0 .0 in
-    let o : updateOpened cs row at ≡ ok start = sym (open-update .ensures) ∙ ap toldInt (the-start .given .1) in
-    let (e, l) = update-opened-ok cs row at start o in
-    let size : map-bytes .result ≡ updateBytes cs = map-bytes .ensures ∙ sym (update-bytes (args .codes .now) (args .flags .now) (args .maxima .now) (args .n)) in
-    search needs
+part-walk-update-start c = omega (arith, inside c)
 
 sub-walk-update-2 : tie.Need-sub-walk-update-2
-sub-walk-update-2 c =
-    let args = c .before .before .before .before .before .before .before .args in
-    let open-update = c .before .before .before .before .before .open-update in
-    let the-start = c .before .before .before .start in
-    let map-bytes = c .before .map-bytes in
-    let cs : List Column = columnsFrom (args .n) 0 (args .codes .now) (args .flags .now) (args .maxima .now) in
-    let row : Bytes = args .row .now in
-    let at = args .at in
-    let start = the-start .given .0 .0 in
-    let o : updateOpened cs row at ≡ ok start = sym (open-update .ensures) ∙ ap toldInt (the-start .given .1) in
-    let (e, l) = update-opened-ok cs row at start o in
-    let size : map-bytes .result ≡ updateBytes cs = map-bytes .ensures ∙ sym (update-bytes (args .codes .now) (args .flags .now) (args .maxima .now) (args .n)) in
-    search needs
+sub-walk-update-2 c = inside (c .before)
 
 part-walk-update-start-2 : tie.Need-part-walk-update-start-2
-part-walk-update-start-2 c =
-    let args = c .before .before .before .before .before .before .before .args in
-    let open-update = c .before .before .before .before .before .open-update in
-    let the-start = c .before .before .before .start in
-    let map-bytes = c .before .map-bytes in
-    let cs : List Column = columnsFrom (args .n) 0 (args .codes .now) (args .flags .now) (args .maxima .now) in
-    let row : Bytes = args .row .now in
-    let at = args .at in
-    let start = the-start .given .0 .0 in
-    let o : updateOpened cs row at ≡ ok start = sym (open-update .ensures) ∙ ap toldInt (the-start .given .1) in
-    let (e, l) = update-opened-ok cs row at start o in
-    let size : map-bytes .result ≡ updateBytes cs = map-bytes .ensures ∙ sym (update-bytes (args .codes .now) (args .flags .now) (args .maxima .now) (args .n)) in
-    search needs
+part-walk-update-start-2 c = inside (c .before)
 
 returns : tie.Need-returns
 returns c =
-    let args = c .before .before .before .before .before .args in
-    let open-update = c .before .before .before .open-update in
-    let cs : List Column = columnsFrom (args .n) 0 (args .codes .now) (args .flags .now) (args .maxima .now) in
-    sym (update-end-closed cs (args .row .now) (args .at) (sym (open-update .ensures) ∙ ap toldInt (c .before .e .given .1)))
+    let a = c .before .before .before .before .before in
+    sym (update-end-closed (cs a) (a .args .row .now) (a .args .at) (sym (c .before .before .before .open-update .ensures) ∙ ap toldInt (c .before .e .given .1)))
 
 returns-2 : tie.Need-returns-2
 returns-2 c =
-    let args = c .before .before .before .before .before .before .before .before .before .before .before .before .args in
-    let open-update = c .before .before .before .before .before .before .before .before .before .before .open-update in
-    let the-start = c .before .before .before .before .before .before .before .before .start in
-    let map-bytes = c .before .before .before .before .before .before .map-bytes in
-    let walk-update = c .before .before .before .walk-update in
-    let cs : List Column = columnsFrom (args .n) 0 (args .codes .now) (args .flags .now) (args .maxima .now) in
-    let row : Bytes = args .row .now in
-    let at = args .at in
-    let start = the-start .given .0 .0 in
-    let o : updateOpened cs row at ≡ ok start = sym (open-update .ensures) ∙ ap toldInt (the-start .given .1) in
-    let (e, l) = update-opened-ok cs row at start o in
-    let size : map-bytes .result ≡ updateBytes cs = map-bytes .ensures ∙ sym (update-bytes (args .codes .now) (args .flags .now) (args .maxima .now) (args .n)) in
-    let force : map-bytes .result + at ≡ at + updateBytes cs = omega (arith, size) in
-    let f : at + map-bytes .result ≡ at + updateBytes cs = omega (arith, size) in
-    let w : updateWalked cs row at (length cs) ≡ toldWalk (walk-update .result) =
-    ap (updateWalked cs row at) (length-from (args .codes .now) (args .flags .now) (args .maxima .now) (args .n) 0)
-    ∙ sym (update-walked-from cs row at (args .n) f e)
-    ∙ ap (λ (m : Bytes). walk (carried m (drop (at + map-bytes .result) row)) row (args .n) (numbered 0 cs) (place start 0)) (sym (rest row at))
-    ∙ ap (λ (m : Bytes). walk (carried (take (length row - at) (drop at row)) m) row (args .n) (numbered 0 cs) (place start 0)) (sym (rest row (at + map-bytes .result)))
-    ∙ sym (walk-update .ensures) in
-    sym (update-end-refused cs row at start o (w ∙ ap toldWalk (c .before .e2 .given .1)))
+    let a = c .before .before .before .before .before .before .before .before .before .before .before .before in
+    sym (update-end-refused (cs a) (a .args .row .now) (a .args .at) _ (opens (c .before .before .before .before .before .before .before .before)) (walked (c .before .before .before) ∙ ap toldWalk (c .before .e2 .given .1)))
 
 returns-3 : tie.Need-returns-3
 returns-3 c =
-    let args = c .before .before .before .before .before .before .before .before .before .before .before .before .args in
-    let open-update = c .before .before .before .before .before .before .before .before .before .before .open-update in
-    let the-start = c .before .before .before .before .before .before .before .before .start in
-    let map-bytes = c .before .before .before .before .before .before .map-bytes in
-    let walk-update = c .before .before .before .walk-update in
-    let position = c .before .position in
-    let cs : List Column = columnsFrom (args .n) 0 (args .codes .now) (args .flags .now) (args .maxima .now) in
-    let row : Bytes = args .row .now in
-    let at = args .at in
-    let start = the-start .given .0 .0 in
-    let o : updateOpened cs row at ≡ ok start = sym (open-update .ensures) ∙ ap toldInt (the-start .given .1) in
-    let (e, l) = update-opened-ok cs row at start o in
-    let size : map-bytes .result ≡ updateBytes cs = map-bytes .ensures ∙ sym (update-bytes (args .codes .now) (args .flags .now) (args .maxima .now) (args .n)) in
-    let force : map-bytes .result + at ≡ at + updateBytes cs = omega (arith, size) in
-    let f : at + map-bytes .result ≡ at + updateBytes cs = omega (arith, size) in
-    let w : updateWalked cs row at (length cs) ≡ toldWalk (walk-update .result) =
-    ap (updateWalked cs row at) (length-from (args .codes .now) (args .flags .now) (args .maxima .now) (args .n) 0)
-    ∙ sym (update-walked-from cs row at (args .n) f e)
-    ∙ ap (λ (m : Bytes). walk (carried m (drop (at + map-bytes .result) row)) row (args .n) (numbered 0 cs) (place start 0)) (sym (rest row at))
-    ∙ ap (λ (m : Bytes). walk (carried (take (length row - at) (drop at row)) m) row (args .n) (numbered 0 cs) (place start 0)) (sym (rest row (at + map-bytes .result)))
-    ∙ sym (walk-update .ensures) in
-    sym (update-end-reached cs row at start o (position .given .0 .0) (position .given .0 .1 .0) (w ∙ ap toldWalk (position .given .1)))
+    let a = c .before .before .before .before .before .before .before .before .before .before .before .before in
+    sym (update-end-reached (cs a) (a .args .row .now) (a .args .at) _ (opens (c .before .before .before .before .before .before .before .before)) _ _ (walked (c .before .before .before) ∙ ap toldWalk (c .before .position .given .1)))
 
 pub end-of-update-spec : {M : Type 1} → statement M
 end-of-update-spec =

@@ -1,13 +1,13 @@
 -- Each way out is a law of look-up in update data.
 -- Assumes nothing.
 use Prim.Native.Nat.{ℕ, _≤_, _<_, _+_, _*_, _-_}
-use mathlib.Core.Path.{_≡_, refl, sym, ap, _∙_}
-use mathlib.Core.Bool.{Bool, true, false}
+use mathlib.Core.Path.{_≡_, sym, ap, _∙_}
+use mathlib.Core.Bool.{true, false}
 use mathlib.Core.List.{List}
 use native.Mathlib.Omega.{arith}
-use lib.ListN.{length, take, drop, getD}
-use Rattle.wire.specs.Read.{Bytes, Read, ok, bad}
-use Rattle.wire.specs.Bits.{mapBytes, bitSet}
+use lib.ListN.{length, drop, getD}
+use Rattle.wire.specs.Read.{Bytes, ok}
+use Rattle.wire.specs.Bits.{bitSet}
 use Rattle.column.specs.declared.column.Column.{Column}
 use Rattle.column.specs.Columns.{isChapter}
 use Rattle.column.specs.Fields.{fieldAt, toldField}
@@ -25,238 +25,119 @@ use borrow.Author.Needs.{needs}
 use Rattle.row.proofs.updates.update_at.Statement.{statement}
 use Rattle.row.proofs.updates.update_at.Tie as tie
 
+-- the columns of a call
+abbrev cs : tie.Start → List Column
+cs a = columnsFrom (a .args .n) 0 (a .args .codes .now) (a .args .flags .now) (a .args .maxima .now)
+
+-- column k is one of them
+counted : (a : tie.Start) → a .args .k < length (cs a)
+counted a = omega (arith, length-from (a .args .codes .now) (a .args .flags .now) (a .args .maxima .now) (a .args .n) 0, a .pre .1)
+
+-- what was asked of it
+asked-of : {R : Type 0} (g : Column → R) (a : tie.After-column-of) {r : R} → r ≡ g (a .column-of .result) → g (getD (cs (a .before .before)) (a .before .before .args .k) noColumn) ≡ r
+asked-of g a e = asked (a .before .before .args .codes .now) (a .before .before .args .flags .now) (a .before .before .args .maxima .now) g (a .before .before .args .n) (a .before .before .args .k) (a .column-of .result) (a .before .before .pre .1) (a .column-of .ensures) e
+
+-- it is no chapter
+plain : (a : tie.Else1) → isChapter (getD (cs (a .before .before .before .before)) (a .before .before .before .before .args .k) noColumn) ≡ false
+plain a = asked-of isChapter (a .before .before) (a .before .is-chapter .ensures) ∙ a .if1 .left
+
+-- the bytes of a map, which the update data hold
+sized : (a : tie.After-map-bytes) → a .map-bytes .result ≡ updateBytes (cs (a .before .before .before .before .before))
+sized a = a .map-bytes .ensures ∙ sym (update-bytes (a .before .before .before .before .before .args .codes .now) (a .before .before .before .before .before .args .flags .now) (a .before .before .before .before .before .args .maxima .now) (a .before .before .before .before .before .args .n))
+
+inside : (a : tie.After-map-bytes) → a .map-bytes .result ≤ length (a .before .before .before .before .before .args .update .now)
+inside a = omega (arith, sized a, update-end-told (cs (a .before .before .before .before .before)) (a .before .before .before .before .before .args .update .now) 0 (a .before .before .before .before .before .args .end) (a .before .before .before .before .before .pre .2) .inside)
+
+-- the bits of column k
+changed : (a : tie.Then2) → bitSet (a .before .before .before .before .before .before .before .args .update .now) (a .before .before .before .before .before .before .before .args .k) ≡ true
+changed a = sym (a .before .is-set .ensures) ∙ a .if2 .taken
+
+forced : (a : tie.After-is-set2) → bitSet (drop (updateBytes (cs (a .before .before .before .before .before .before .before .before .before))) (a .before .before .before .before .before .before .before .before .before .args .update .now)) (a .before .before .before .before .before .before .before .before .before .args .k) ≡ a .is-set2 .result
+forced a =
+    ap (λ (s : ℕ). bitSet (drop s (a .before .before .before .before .before .before .before .before .before .args .update .now)) (a .before .before .before .before .before .before .before .before .before .args .k)) (sym (sized (a .before .before .before .before)))
+    ∙ ap (λ (m : Bytes). bitSet m (a .before .before .before .before .before .before .before .before .before .args .k)) (sym (rest (a .before .before .before .before .before .before .before .before .before .args .update .now) (a .before .before .before .before .map-bytes .result)))
+    ∙ sym (a .is-set2 .ensures)
+
+-- the walk to it, and its field
+walked : (a : tie.After-walk-update) → updateWalked (cs (a .before .before .before .before .before .before .before .before .before .before .before .before)) (a .before .before .before .before .before .before .before .before .before .before .before .before .args .update .now) 0 (a .before .before .before .before .before .before .before .before .before .before .before .before .args .k) ≡ toldWalk (a .walk-update .result)
+walked a =
+    let row : Bytes = a .before .before .before .before .before .before .before .before .before .before .before .before .args .update .now in
+    let size : ℕ = a .before .before .before .before .before .before .before .map-bytes .result in
+    let e : size ≡ 0 + updateBytes (cs (a .before .before .before .before .before .before .before .before .before .before .before .before)) = omega (arith, sized (a .before .before .before .before .before .before .before)) in
+    let s : 2 * size ≡ 0 + 2 * updateBytes (cs (a .before .before .before .before .before .before .before .before .before .before .before .before)) = omega (arith, sized (a .before .before .before .before .before .before .before)) in
+    sym (update-walked-from (cs (a .before .before .before .before .before .before .before .before .before .before .before .before)) row 0 (a .before .before .before .before .before .before .before .before .before .before .before .before .args .k) e s)
+    ∙ ap (λ (m : Bytes). walk (carried row m) row (a .before .before .before .before .before .before .before .before .before .before .before .before .args .k) (numbered 0 (cs (a .before .before .before .before .before .before .before .before .before .before .before .before))) (place (2 * size) 0)) (sym (rest row size))
+    ∙ sym (a .walk-update .ensures)
+
+arrived : (a : tie.After-position) → updateWalked (cs (a .before .before .before .before .before .before .before .before .before .before .before .before .before .before)) (a .before .before .before .before .before .before .before .before .before .before .before .before .before .before .args .update .now) 0 (a .before .before .before .before .before .before .before .before .before .before .before .before .before .before .args .k) ≡ ok (place (a .position .given .0 .0) (a .position .given .0 .1 .0))
+arrived a = walked (a .before .before) ∙ ap toldWalk (a .position .given .1)
+
+field : (a : tie.After-field-at) → fieldAt (getD (cs (a .before .before .before .before .before .before .before .before .before .before .before .before .before .before .before .before)) (a .before .before .before .before .before .before .before .before .before .before .before .before .before .before .before .before .args .k) noColumn) (a .before .before .before .before .before .before .before .before .before .before .before .before .before .before .before .before .args .update .now) (a .before .before .position .given .0 .0) ≡ toldField (a .field-at .result)
+field a = asked-of (λ (x : Column). fieldAt x (a .before .before .before .before .before .before .before .before .before .before .before .before .before .before .before .before .args .update .now) (a .before .before .position .given .0 .0)) (a .before .before .before .before .before .before .before .before .before .before .before .before .before .before) (a .field-at .ensures)
+
 column-of-requires : tie.Need-column-of-requires
-column-of-requires c κs =
-    let pre = c .before .pre in
-    omega (arith, pre .0, pre .1)
+column-of-requires c κs = omega (arith, c .before .pre .0, c .before .pre .1)
 
 returns : tie.Need-returns
 returns c =
-    let args = c .before .before .before .before .args in
-    let pre = c .before .before .before .before .pre in
-    let column-of = c .before .before .column-of in
-    let cs : List Column = columnsFrom (args .n) 0 (args .codes .now) (args .flags .now) (args .maxima .now) in
-    let row : Bytes = args .update .now in
-    let k = args .k in
-    let h : k < length cs = omega (arith, length-from (args .codes .now) (args .flags .now) (args .maxima .now) (args .n) 0, pre .1) in
-    sym (look-update-chapter cs row k h (args .end) (pre .2) (asked (args .codes .now) (args .flags .now) (args .maxima .now) isChapter (args .n) k (column-of .result) (pre .1) (column-of .ensures) (c .before .is-chapter .ensures) ∙ c .if1 .taken))
+    let a = c .before .before .before .before in
+    sym (look-update-chapter (cs a) (a .args .update .now) (a .args .k) (counted a) (a .args .end) (a .pre .2) (asked-of isChapter (c .before .before) (c .before .is-chapter .ensures) ∙ c .if1 .taken))
 
 sub-is-set : tie.Need-sub-is-set
-sub-is-set c =
-    let args = c .before .before .before .before .before .before .before .args in
-    let pre = c .before .before .before .before .before .before .before .pre in
-    let map-bytes = c .before .before .map-bytes in
-    let cs : List Column = columnsFrom (args .n) 0 (args .codes .now) (args .flags .now) (args .maxima .now) in
-    let row : Bytes = args .update .now in
-    let k = args .k in
-    let h : k < length cs = omega (arith, length-from (args .codes .now) (args .flags .now) (args .maxima .now) (args .n) 0, pre .1) in
-    let size : map-bytes .result ≡ updateBytes cs = map-bytes .ensures ∙ sym (update-bytes (args .codes .now) (args .flags .now) (args .maxima .now) (args .n)) in
-    let i = update-end-told cs row 0 (args .end) (pre .2) .inside in
-    search needs
+sub-is-set c = inside (c .before .before)
 
 part-is-set-start : tie.Need-part-is-set-start
-part-is-set-start c =
-    let args = c .before .before .before .before .before .before .before .args in
-    let pre = c .before .before .before .before .before .before .before .pre in
-    let map-bytes = c .before .before .map-bytes in
-    let cs : List Column = columnsFrom (args .n) 0 (args .codes .now) (args .flags .now) (args .maxima .now) in
-    let row : Bytes = args .update .now in
-    let k = args .k in
-    let h : k < length cs = omega (arith, length-from (args .codes .now) (args .flags .now) (args .maxima .now) (args .n) 0, pre .1) in
-    let size : map-bytes .result ≡ updateBytes cs = map-bytes .ensures ∙ sym (update-bytes (args .codes .now) (args .flags .now) (args .maxima .now) (args .n)) in
-    let i = update-end-told cs row 0 (args .end) (pre .2) .inside in
-    search needs
+part-is-set-start c = inside (c .before .before)
 
 returns-2 : tie.Need-returns-2
 returns-2 c =
-    let args = c .before .before .before .before .before .before .before .before .before .before .args in
-    let pre = c .before .before .before .before .before .before .before .before .before .before .pre in
-    let column-of = c .before .before .before .before .before .before .before .before .column-of in
-    let is-chapter = c .before .before .before .before .before .before .before .is-chapter in
-    let if1 = c .before .before .before .before .before .before .if1 in
-    let map-bytes = c .before .before .before .before .before .map-bytes in
-    let is-set = c .before .before .before .before .is-set in
-    let if2 = c .before .before .before .if2 in
-    let is-set2 = c .before .is-set2 in
-    let cs : List Column = columnsFrom (args .n) 0 (args .codes .now) (args .flags .now) (args .maxima .now) in
-    let row : Bytes = args .update .now in
-    let k = args .k in
-    let h : k < length cs = omega (arith, length-from (args .codes .now) (args .flags .now) (args .maxima .now) (args .n) 0, pre .1) in
-    let p : isChapter (getD cs k noColumn) ≡ false =
-    asked (args .codes .now) (args .flags .now) (args .maxima .now) isChapter (args .n) k (column-of .result) (pre .1) (column-of .ensures) (is-chapter .ensures) ∙ if1 .left in
-    let u : bitSet row k ≡ true = sym (is-set .ensures) ∙ if2 .taken in
-    let size : map-bytes .result ≡ updateBytes cs = map-bytes .ensures ∙ sym (update-bytes (args .codes .now) (args .flags .now) (args .maxima .now) (args .n)) in
-    let f : bitSet (drop (updateBytes cs) row) k ≡ is-set2 .result =
-    ap (λ (s : ℕ). bitSet (drop s row) k) (sym size) ∙ ap (λ (m : Bytes). bitSet m k) (sym (rest row (map-bytes .result))) ∙ sym (is-set2 .ensures) in
-    sym (look-update-null cs row k h (args .end) (pre .2) p u (f ∙ c .if3 .taken))
+    let a = c .before .before .before .before .before .before .before .before .before .before in
+    sym (look-update-null (cs a) (a .args .update .now) (a .args .k) (counted a) (a .args .end) (a .pre .2) (plain (c .before .before .before .before .before .before)) (changed (c .before .before .before)) (forced (c .before) ∙ c .if3 .taken))
 
 sub-walk-update : tie.Need-sub-walk-update
-sub-walk-update c =
-    let args = c .before .before .before .before .before .before .before .before .before .before .args in
-    let pre = c .before .before .before .before .before .before .before .before .before .before .pre in
-    let map-bytes = c .before .before .before .before .before .map-bytes in
-    let cs : List Column = columnsFrom (args .n) 0 (args .codes .now) (args .flags .now) (args .maxima .now) in
-    let row : Bytes = args .update .now in
-    let k = args .k in
-    let h : k < length cs = omega (arith, length-from (args .codes .now) (args .flags .now) (args .maxima .now) (args .n) 0, pre .1) in
-    let size : map-bytes .result ≡ updateBytes cs = map-bytes .ensures ∙ sym (update-bytes (args .codes .now) (args .flags .now) (args .maxima .now) (args .n)) in
-    let i = update-end-told cs row 0 (args .end) (pre .2) .inside in
-    search needs
+sub-walk-update c = inside (c .before .before .before .before .before)
 
 part-walk-update-start : tie.Need-part-walk-update-start
-part-walk-update-start c =
-    let args = c .before .before .before .before .before .before .before .before .before .before .args in
-    let pre = c .before .before .before .before .before .before .before .before .before .before .pre in
-    let map-bytes = c .before .before .before .before .before .map-bytes in
-    let cs : List Column = columnsFrom (args .n) 0 (args .codes .now) (args .flags .now) (args .maxima .now) in
-    let row : Bytes = args .update .now in
-    let k = args .k in
-    let h : k < length cs = omega (arith, length-from (args .codes .now) (args .flags .now) (args .maxima .now) (args .n) 0, pre .1) in
-    let size : map-bytes .result ≡ updateBytes cs = map-bytes .ensures ∙ sym (update-bytes (args .codes .now) (args .flags .now) (args .maxima .now) (args .n)) in
-    let i = update-end-told cs row 0 (args .end) (pre .2) .inside in
-    search needs
+part-walk-update-start c = inside (c .before .before .before .before .before)
 
 mul-walk-update : tie.Need-mul-walk-update
-mul-walk-update c =
-    let args = c .before .before .before .before .before .before .before .before .before .before .before .args in
-    let pre = c .before .before .before .before .before .before .before .before .before .before .before .pre in
-    let map-bytes = c .before .before .before .before .before .before .map-bytes in
-    omega (arith, map-bytes .ensures, map-few (args .n), pre .0)
+mul-walk-update c = omega (arith, c .before .before .before .before .before .before .map-bytes .ensures, map-few (c .before .before .before .before .before .before .before .before .before .before .before .args .n), c .before .before .before .before .before .before .before .before .before .before .before .pre .0)
 
 walk-update-requires : tie.Need-walk-update-requires
-walk-update-requires c κs =
-    let pre = c .before .before .before .before .before .before .before .before .before .before .before .pre in
-    pre .0
+walk-update-requires c κs = c .before .before .before .before .before .before .before .before .before .before .before .pre .0
 
 add-t30 : tie.Need-add-t30
 add-t30 c =
-    let args = c .before .before .before .before .before .before .before .before .before .before .before .before .before .before .before .before .before .before .before .before .args in
-    let pre = c .before .before .before .before .before .before .before .before .before .before .before .before .before .before .before .before .before .before .before .before .pre in
-    let column-of = c .before .before .before .before .before .before .before .before .before .before .before .before .before .before .before .before .before .before .column-of in
-    let map-bytes = c .before .before .before .before .before .before .before .before .before .before .before .before .before .before .before .map-bytes in
-    let walk-update = c .before .before .before .before .before .before .before .before .walk-update in
-    let position = c .before .before .before .before .before .before .position in
-    let field-at = c .before .before .before .before .field-at in
-    let f = c .before .before .f in
-    let cs : List Column = columnsFrom (args .n) 0 (args .codes .now) (args .flags .now) (args .maxima .now) in
-    let a = walk-few (carried (args .update .now) (take (length (args .update .now) - map-bytes .result) (drop (map-bytes .result) (args .update .now)))) (args .update .now) (args .k) (numbered 0 cs) (place (2 * map-bytes .result) 0) (place (position .given .0 .0) (position .given .0 .1 .0)) (sym (walk-update .ensures) ∙ ap toldWalk (position .given .1)) in
-    let b = few-prefixes (column-of .result) (args .update .now) (position .given .0 .0) (sym (field-at .ensures) ∙ ap toldField (f .given .1)) in
-    omega (arith, a, b, pre .0, pre .1)
+    let a = c .before .before .before .before .before .before .before .before .before .before .before .before .before .before .before .before .before .before .before .before in
+    let p = c .before .before .before .before .before .before .position in
+    let w = walk-few _ (a .args .update .now) (a .args .k) (numbered 0 (cs a)) _ (place (p .given .0 .0) (p .given .0 .1 .0)) (sym (c .before .before .before .before .before .before .before .before .walk-update .ensures) ∙ ap toldWalk (p .given .1)) in
+    let b = few-prefixes (c .before .before .before .before .before .before .before .before .before .before .before .before .before .before .before .before .before .before .column-of .result) (a .args .update .now) (p .given .0 .0) (sym (c .before .before .before .before .field-at .ensures) ∙ ap toldField (c .before .before .f .given .1)) in
+    omega (arith, w, b, a .pre .0, a .pre .1)
 
 returns-3 : tie.Need-returns-3
 returns-3 c =
-    let args = c .before .before .before .before .before .before .before .before .before .before .before .before .before .before .before .before .args in
-    let pre = c .before .before .before .before .before .before .before .before .before .before .before .before .before .before .before .before .pre in
-    let column-of = c .before .before .before .before .before .before .before .before .before .before .before .before .before .before .column-of in
-    let is-chapter = c .before .before .before .before .before .before .before .before .before .before .before .before .before .is-chapter in
-    let if1 = c .before .before .before .before .before .before .before .before .before .before .before .before .if1 in
-    let map-bytes = c .before .before .before .before .before .before .before .before .before .before .before .map-bytes in
-    let is-set = c .before .before .before .before .before .before .before .before .before .before .is-set in
-    let if2 = c .before .before .before .before .before .before .before .before .before .if2 in
-    let is-set2 = c .before .before .before .before .before .before .before .is-set2 in
-    let if3 = c .before .before .before .before .before .before .if3 in
-    let walk-update = c .before .before .before .before .walk-update in
-    let the-e = c .before .before .e in
-    let cs : List Column = columnsFrom (args .n) 0 (args .codes .now) (args .flags .now) (args .maxima .now) in
-    let row : Bytes = args .update .now in
-    let k = args .k in
-    let h : k < length cs = omega (arith, length-from (args .codes .now) (args .flags .now) (args .maxima .now) (args .n) 0, pre .1) in
-    let p : isChapter (getD cs k noColumn) ≡ false =
-    asked (args .codes .now) (args .flags .now) (args .maxima .now) isChapter (args .n) k (column-of .result) (pre .1) (column-of .ensures) (is-chapter .ensures) ∙ if1 .left in
-    let u : bitSet row k ≡ true = sym (is-set .ensures) ∙ if2 .taken in
-    let size : map-bytes .result ≡ updateBytes cs = map-bytes .ensures ∙ sym (update-bytes (args .codes .now) (args .flags .now) (args .maxima .now) (args .n)) in
-    let f : bitSet (drop (updateBytes cs) row) k ≡ is-set2 .result =
-    ap (λ (s : ℕ). bitSet (drop s row) k) (sym size) ∙ ap (λ (m : Bytes). bitSet m k) (sym (rest row (map-bytes .result))) ∙ sym (is-set2 .ensures) in
-    let e : map-bytes .result ≡ 0 + updateBytes cs = omega (arith, size) in
-    let s : 2 * map-bytes .result ≡ 0 + 2 * updateBytes cs = omega (arith, size) in
-    let w : updateWalked cs row 0 k ≡ toldWalk (walk-update .result) =
-    sym (update-walked-from cs row 0 k e s)
-    ∙ ap (λ (m : Bytes). walk (carried row m) row k (numbered 0 cs) (place (2 * map-bytes .result) 0)) (sym (rest row (map-bytes .result)))
-    ∙ sym (walk-update .ensures) in
-    ap toldUpdate (c .about-update .ensures) ∙ sym (look-update-walk cs row k h (args .end) (pre .2) p u (f ∙ if3 .left) (w ∙ ap toldWalk (the-e .given .1)))
+    let a = c .before .before .before .before .before .before .before .before .before .before .before .before .before .before .before .before in
+    ap toldUpdate (c .about-update .ensures)
+    ∙ sym (look-update-walk (cs a) (a .args .update .now) (a .args .k) (counted a) (a .args .end) (a .pre .2) (plain (c .before .before .before .before .before .before .before .before .before .before .before .before)) (changed (c .before .before .before .before .before .before .before .before .before)) (forced (c .before .before .before .before .before .before .before) ∙ c .before .before .before .before .before .before .if3 .left)
+    (walked (c .before .before .before .before) ∙ ap toldWalk (c .before .before .e .given .1)))
 
 returns-4 : tie.Need-returns-4
 returns-4 c =
-    let args = c .before .before .before .before .before .before .before .before .before .before .before .before .before .before .before .before .before .before .before .before .args in
-    let pre = c .before .before .before .before .before .before .before .before .before .before .before .before .before .before .before .before .before .before .before .before .pre in
-    let column-of = c .before .before .before .before .before .before .before .before .before .before .before .before .before .before .before .before .before .before .column-of in
-    let is-chapter = c .before .before .before .before .before .before .before .before .before .before .before .before .before .before .before .before .before .is-chapter in
-    let if1 = c .before .before .before .before .before .before .before .before .before .before .before .before .before .before .before .before .if1 in
-    let map-bytes = c .before .before .before .before .before .before .before .before .before .before .before .before .before .before .before .map-bytes in
-    let is-set = c .before .before .before .before .before .before .before .before .before .before .before .before .before .before .is-set in
-    let if2 = c .before .before .before .before .before .before .before .before .before .before .before .before .before .if2 in
-    let is-set2 = c .before .before .before .before .before .before .before .before .before .before .before .is-set2 in
-    let if3 = c .before .before .before .before .before .before .before .before .before .before .if3 in
-    let walk-update = c .before .before .before .before .before .before .before .before .walk-update in
-    let position = c .before .before .before .before .before .before .position in
-    let field-at = c .before .before .before .before .field-at in
-    let e2 = c .before .before .e2 in
-    let cs : List Column = columnsFrom (args .n) 0 (args .codes .now) (args .flags .now) (args .maxima .now) in
-    let row : Bytes = args .update .now in
-    let k = args .k in
-    let h : k < length cs = omega (arith, length-from (args .codes .now) (args .flags .now) (args .maxima .now) (args .n) 0, pre .1) in
-    let p : isChapter (getD cs k noColumn) ≡ false =
-    asked (args .codes .now) (args .flags .now) (args .maxima .now) isChapter (args .n) k (column-of .result) (pre .1) (column-of .ensures) (is-chapter .ensures) ∙ if1 .left in
-    let u : bitSet row k ≡ true = sym (is-set .ensures) ∙ if2 .taken in
-    let size : map-bytes .result ≡ updateBytes cs = map-bytes .ensures ∙ sym (update-bytes (args .codes .now) (args .flags .now) (args .maxima .now) (args .n)) in
-    let f : bitSet (drop (updateBytes cs) row) k ≡ is-set2 .result =
-    ap (λ (s : ℕ). bitSet (drop s row) k) (sym size) ∙ ap (λ (m : Bytes). bitSet m k) (sym (rest row (map-bytes .result))) ∙ sym (is-set2 .ensures) in
-    let e : map-bytes .result ≡ 0 + updateBytes cs = omega (arith, size) in
-    let s : 2 * map-bytes .result ≡ 0 + 2 * updateBytes cs = omega (arith, size) in
-    let w : updateWalked cs row 0 k ≡ toldWalk (walk-update .result) =
-    sym (update-walked-from cs row 0 k e s)
-    ∙ ap (λ (m : Bytes). walk (carried row m) row k (numbered 0 cs) (place (2 * map-bytes .result) 0)) (sym (rest row (map-bytes .result)))
-    ∙ sym (walk-update .ensures) in
-    ap toldUpdate (c .about-update2 .ensures) ∙ sym (look-update-bad cs row k h (args .end) (pre .2) p u (f ∙ if3 .left) (position .given .0 .0) (position .given .0 .1 .0) (w ∙ ap toldWalk (position .given .1)) (asked (args .codes .now) (args .flags .now) (args .maxima .now) (λ (x : Column). fieldAt x row (position .given .0 .0)) (args .n) k (column-of .result) (pre .1) (column-of .ensures) refl ∙ sym (field-at .ensures) ∙ ap toldField (e2 .given .1)))
+    let a = c .before .before .before .before .before .before .before .before .before .before .before .before .before .before .before .before .before .before .before .before in
+    ap toldUpdate (c .about-update2 .ensures)
+    ∙ sym (look-update-bad (cs a) (a .args .update .now) (a .args .k) (counted a) (a .args .end) (a .pre .2) (plain (c .before .before .before .before .before .before .before .before .before .before .before .before .before .before .before .before)) (changed (c .before .before .before .before .before .before .before .before .before .before .before .before .before)) (forced (c .before .before .before .before .before .before .before .before .before .before .before) ∙ c .before .before .before .before .before .before .before .before .before .before .if3 .left) _ _
+    (arrived (c .before .before .before .before .before .before)) (field (c .before .before .before .before) ∙ ap toldField (c .before .before .e2 .given .1)))
 
 returns-5 : tie.Need-returns-5
 returns-5 c =
-    let args = c .before .before .before .before .before .before .before .before .before .before .before .before .before .before .before .before .before .before .before .before .args in
-    let pre = c .before .before .before .before .before .before .before .before .before .before .before .before .before .before .before .before .before .before .before .before .pre in
-    let column-of = c .before .before .before .before .before .before .before .before .before .before .before .before .before .before .before .before .before .before .column-of in
-    let is-chapter = c .before .before .before .before .before .before .before .before .before .before .before .before .before .before .before .before .before .is-chapter in
-    let if1 = c .before .before .before .before .before .before .before .before .before .before .before .before .before .before .before .before .if1 in
-    let map-bytes = c .before .before .before .before .before .before .before .before .before .before .before .before .before .before .before .map-bytes in
-    let is-set = c .before .before .before .before .before .before .before .before .before .before .before .before .before .before .is-set in
-    let if2 = c .before .before .before .before .before .before .before .before .before .before .before .before .before .if2 in
-    let is-set2 = c .before .before .before .before .before .before .before .before .before .before .before .is-set2 in
-    let if3 = c .before .before .before .before .before .before .before .before .before .before .if3 in
-    let walk-update = c .before .before .before .before .before .before .before .before .walk-update in
-    let position = c .before .before .before .before .before .before .position in
-    let field-at = c .before .before .before .before .field-at in
-    let the-f = c .before .before .f in
-    let cs : List Column = columnsFrom (args .n) 0 (args .codes .now) (args .flags .now) (args .maxima .now) in
-    let row : Bytes = args .update .now in
-    let k = args .k in
-    let h : k < length cs = omega (arith, length-from (args .codes .now) (args .flags .now) (args .maxima .now) (args .n) 0, pre .1) in
-    let p : isChapter (getD cs k noColumn) ≡ false =
-    asked (args .codes .now) (args .flags .now) (args .maxima .now) isChapter (args .n) k (column-of .result) (pre .1) (column-of .ensures) (is-chapter .ensures) ∙ if1 .left in
-    let u : bitSet row k ≡ true = sym (is-set .ensures) ∙ if2 .taken in
-    let size : map-bytes .result ≡ updateBytes cs = map-bytes .ensures ∙ sym (update-bytes (args .codes .now) (args .flags .now) (args .maxima .now) (args .n)) in
-    let f : bitSet (drop (updateBytes cs) row) k ≡ is-set2 .result =
-    ap (λ (s : ℕ). bitSet (drop s row) k) (sym size) ∙ ap (λ (m : Bytes). bitSet m k) (sym (rest row (map-bytes .result))) ∙ sym (is-set2 .ensures) in
-    let e : map-bytes .result ≡ 0 + updateBytes cs = omega (arith, size) in
-    let s : 2 * map-bytes .result ≡ 0 + 2 * updateBytes cs = omega (arith, size) in
-    let w : updateWalked cs row 0 k ≡ toldWalk (walk-update .result) =
-    sym (update-walked-from cs row 0 k e s)
-    ∙ ap (λ (m : Bytes). walk (carried row m) row k (numbered 0 cs) (place (2 * map-bytes .result) 0)) (sym (rest row (map-bytes .result)))
-    ∙ sym (walk-update .ensures) in
-    sym (look-update-found cs row k h (args .end) (pre .2) p u (f ∙ if3 .left) (position .given .0 .0) (position .given .0 .1 .0) (w ∙ ap toldWalk (position .given .1)) _ (asked (args .codes .now) (args .flags .now) (args .maxima .now) (λ (x : Column). fieldAt x row (position .given .0 .0)) (args .n) k (column-of .result) (pre .1) (column-of .ensures) refl ∙ sym (field-at .ensures) ∙ ap toldField (the-f .given .1)))
+    let a = c .before .before .before .before .before .before .before .before .before .before .before .before .before .before .before .before .before .before .before .before in
+    sym (look-update-found (cs a) (a .args .update .now) (a .args .k) (counted a) (a .args .end) (a .pre .2) (plain (c .before .before .before .before .before .before .before .before .before .before .before .before .before .before .before .before)) (changed (c .before .before .before .before .before .before .before .before .before .before .before .before .before)) (forced (c .before .before .before .before .before .before .before .before .before .before .before) ∙ c .before .before .before .before .before .before .before .before .before .before .if3 .left) _ _
+    (arrived (c .before .before .before .before .before .before)) _ (field (c .before .before .before .before) ∙ ap toldField (c .before .before .f .given .1)))
 
 returns-6 : tie.Need-returns-6
 returns-6 c =
-    let args = c .before .before .before .before .before .before .before .args in
-    let pre = c .before .before .before .before .before .before .before .pre in
-    let column-of = c .before .before .before .before .before .column-of in
-    let is-chapter = c .before .before .before .before .is-chapter in
-    let if1 = c .before .before .before .if1 in
-    let cs : List Column = columnsFrom (args .n) 0 (args .codes .now) (args .flags .now) (args .maxima .now) in
-    let row : Bytes = args .update .now in
-    let k = args .k in
-    let h : k < length cs = omega (arith, length-from (args .codes .now) (args .flags .now) (args .maxima .now) (args .n) 0, pre .1) in
-    let p : isChapter (getD cs k noColumn) ≡ false =
-    asked (args .codes .now) (args .flags .now) (args .maxima .now) isChapter (args .n) k (column-of .result) (pre .1) (column-of .ensures) (is-chapter .ensures) ∙ if1 .left in
-    sym (look-update-unchanged cs row k h (args .end) (pre .2) p (sym (c .before .is-set .ensures) ∙ c .if2 .left))
+    let a = c .before .before .before .before .before .before .before in
+    sym (look-update-unchanged (cs a) (a .args .update .now) (a .args .k) (counted a) (a .args .end) (a .pre .2) (plain (c .before .before .before)) (sym (c .before .is-set .ensures) ∙ c .if2 .left))
 
 pub update-at-spec : {M : Type 1} → statement M
 update-at-spec =

@@ -42,21 +42,30 @@ part-breaks-force-start-2 c =
     let pre = c .before .before .before .before .before .before .pre in
     omega (arith, pre)
 
+-- what the rule says of column i
+told : (a : tie.After-breaks-force Inv-loop μ-loop) → a .breaks-force .result ≡ forceBroken (drop (a .before .before .before .before .before .before .before .before .args .at) (a .before .before .before .before .before .before .before .before .args .section .now)) (drop (a .before .before .before .before .before .before .before .before .args .force) (a .before .before .before .before .before .before .before .before .args .section .now)) (mark (a .before .before .before .column-in .result) (a .before .before .before .before .before .before .loop .i))
+told a =
+    let s = a .before .before .before .before .before .before .before .before in
+    a .breaks-force .ensures
+    ∙ ap (λ (m : Bytes). forceBroken m (take (length (s .args .section .now) - s .args .force) (drop (s .args .force) (s .args .section .now))) (mark (a .before .before .before .column-in .result) (a .before .before .before .before .before .before .loop .i)))
+    (rest (s .args .section .now) (s .args .at))
+    ∙ ap (λ (m : Bytes). forceBroken (drop (s .args .at) (s .args .section .now)) m (mark (a .before .before .before .column-in .result) (a .before .before .before .before .before .before .loop .i))) (rest (s .args .section .now) (s .args .force))
+
 returns : tie.Need-returns Inv-loop μ-loop
 returns c =
-    let args = c .before .before .before .before .before .before .before .before .before .args in
-    let loop = c .before .before .before .before .before .before .before .loop in
-    let loop-test = c .before .before .before .before .before .before .loop-test in
-    let column-in = c .before .before .before .before .column-in in
-    sym (loop .inv .1 ∙ slots-found (args .slots .now) (args .first) (args .count) (forceBroken (drop (args .at) (args .section .now)) (drop (args .force) (args .section .now))) 13 (args .force) (loop .i) (column-in .result) (loop-test .taken) (column-in .ensures) (c .before .breaks-force .ensures ∙ ap (λ (m : Bytes). forceBroken m (take (length (args .section .now) - args .force) (drop (args .force) (args .section .now))) (mark (column-in .result) (loop .i))) (rest (args .section .now) (args .at)) ∙ ap (λ (m : Bytes). forceBroken (drop (args .at) (args .section .now)) m (mark (column-in .result) (loop .i))) (rest (args .section .now) (args .force))) (c .if1 .taken))
+    let a = c .before .before .before .before .before .before .before .before .before in
+    sym (c .before .before .before .before .before .before .before .loop .inv .1
+    ∙ slots-found (a .args .slots .now) (a .args .first) (a .args .count) (forceBroken (drop (a .args .at) (a .args .section .now)) (drop (a .args .force) (a .args .section .now))) 13 (a .args .force) (c .before .before .before .before .before .before .before .loop .i) (c .before .before .before .before .column-in .result) (c .before .before .before .before .before .before .loop-test .taken)
+    (c .before .before .before .before .column-in .ensures) (told (c .before)) (c .if1 .taken))
 
 loop-again : tie.Need-loop-again Inv-loop μ-loop
 loop-again c =
-    let args = c .before .before .before .before .before .before .before .before .before .args in
-    let loop = c .before .before .before .before .before .before .before .loop in
-    let loop-test = c .before .before .before .before .before .before .loop-test in
-    let column-in = c .before .before .before .before .column-in in
-    (search needs, loop .inv .1 ∙ slots-next (args .slots .now) (args .first) (args .count) (forceBroken (drop (args .at) (args .section .now)) (drop (args .force) (args .section .now))) 13 (args .force) (loop .i) (column-in .result) (loop-test .taken) (column-in .ensures) (c .before .breaks-force .ensures ∙ ap (λ (m : Bytes). forceBroken m (take (length (args .section .now) - args .force) (drop (args .force) (args .section .now))) (mark (column-in .result) (loop .i))) (rest (args .section .now) (args .at)) ∙ ap (λ (m : Bytes). forceBroken (drop (args .at) (args .section .now)) m (mark (column-in .result) (loop .i))) (rest (args .section .now) (args .force))) (c .if1 .left))
+    let a = c .before .before .before .before .before .before .before .before .before in (
+      search needs,
+      c .before .before .before .before .before .before .before .loop .inv .1
+          ∙ slots-next (a .args .slots .now) (a .args .first) (a .args .count) (forceBroken (drop (a .args .at) (a .args .section .now)) (drop (a .args .force) (a .args .section .now))) 13 (a .args .force) (c .before .before .before .before .before .before .before .loop .i) (c .before .before .before .before .column-in .result) (c .before .before .before .before .before .before .loop-test .taken)
+          (c .before .before .before .before .column-in .ensures) (told (c .before)) (c .if1 .left),
+    )
 
 returns-2 : tie.Need-returns-2 Inv-loop μ-loop
 returns-2 c =

@@ -5,13 +5,13 @@ use mathlib.Core.Path.{_≡_, refl, sym, ap, _∙_}
 use native.Mathlib.Omega.{arith}
 use lib.ListN.{length, getD}
 use lib.Dec.{eqb}
-use Rattle.wire.specs.Read.{refused}
+use Rattle.wire.specs.Read.{refused, ok}
 use Rattle.section.specs.declared.steps.Span.the-variants as span
 use Rattle.section.specs.Heads.{toldHead}
 use Rattle.section.specs.Shapes.{columnOf, gapOf, slotColumns}
 use Rattle.section.specs.Spans.{SpanIs}
 use Rattle.section.specs.Ways.{dataEnd, Led}
-use Rattle.section.proofs.Scan.{AtElement, at-start, head-refused, deleted, delete-small, data-refused, row-ended, change-ended, head-ahead, table-long, scanned-rows, scanned-refused}
+use Rattle.section.proofs.Scan.{AtElement, at-start, head-refused, Deleted, deleted, Ahead, head-ahead, data-refused, row-ended, Changed, change-ended, table-long, scanned-rows, scanned-refused}
 use Rattle.section.proofs.OnWay.{OnWay, way-start, way-refused, way-next, way-short, way-ended}
 use borrow.Author.Needs.{needs}
 use Rattle.section.proofs.read.scan.Statement.{statement}
@@ -29,6 +29,39 @@ Inv-section slots words forms numbers schemas section table₀ at₀ rows₀ chi
 abbrev μ-section : tie.MeasureT-section
 μ-section slots words forms numbers schemas section table₀ at₀ rows₀ child₀ origin₀ table at rows child origin = length section - at
 
+-- behind the head of an 8C
+by-delete : (i : tie.After-id Inv-loop μ-loop Inv-section μ-section) → Deleted _ _ _ _ _ _ _ _ _ (i .before .before .before .section .inv) (i .id .given .0 .0)
+by-delete i =
+    deleted _ _ _ _ _ _ _ _ _ (i .before .before .before .section .inv) (i .id .given .0 .0) (λ x. i .before .before .before .before .before .shared-slice-known .given x .fits)
+    (sym (i .before .before .head-at .ensures) ∙ ap toldHead (i .id .given .1))
+
+-- behind the head of row data
+by-head : (k : tie.After-kind Inv-loop μ-loop Inv-section μ-section) → Ahead _ _ _ _ _ _ _ _ _ (k .before .before .before .section .inv) (k .kind .given .0 .0) (k .kind .given .0 .1 .0) (k .kind .given .0 .1 .1 .0) (k .kind .given .0 .1 .1 .1 .0)
+by-head k =
+    head-ahead _ _ _ _ _ _ _ _ _ (k .before .before .before .section .inv) (k .kind .given .0 .0) (k .kind .given .0 .1 .0) (k .kind .given .0 .1 .1 .0) (k .kind .given .0 .1 .1 .1 .0) (k .before .before .before .before .before .before .pre .0 .top) (λ x. k .before .before .before .before .before .shared-slice-known .given x .fits)
+    (sym (k .before .before .head-at .ensures) ∙ ap toldHead (k .kind .given .1))
+
+-- the way over the data is open
+by-way : (f : tie.After-fields Inv-loop μ-loop Inv-section μ-section) →
+    Led (f .before .before .before .before .before .before .before .before .before .before .args .words .now) (eqb (f .before .before .before .before .kind .given .0 .0) 3) (slotColumns (f .before .before .before .before .before .before .before .before .before .before .args .slots .now) (f .before .before .before .before .kind .given .0 .1 .0)) (f .before .before .before .before .before .before .before .before .before .before .args .section .now)
+    (f .before .before .before .before .kind .given .0 .1 .1 .1 .0) (f .fields .given .0 .0) (f .fields .given .0 .1 .0) (f .fields .given .0 .1 .1 .0) (f .fields .given .0 .1 .1 .1 .0)
+    (f .fields .given .0 .1 .1 .1 .1 .0)
+by-way f = rw (f .fields .given .1) at (f .before .before .way-over .ensures)
+
+-- the data end inside the section
+by-end : (e : tie.Else1 Inv-loop μ-loop Inv-section μ-section) →
+    dataEnd (eqb (e .before .before .before .before .before .before .before .before .kind .given .0 .0) 3) (slotColumns (e .before .before .before .before .before .before .before .before .before .before .before .before .before .before .args .slots .now) (e .before .before .before .before .before .before .before .before .kind .given .0 .1 .0)) (e .before .before .before .before .before .before .before .before .before .before .before .before .before .before .args .section .now)
+    (e .before .before .before .before .before .before .before .before .kind .given .0 .1 .1 .1 .0)
+    ≡ ok (e .before .before .loop .p + e .before .before .before .before .fields .given .0 .1 .1 .1 .0)
+by-end e = way-ended _ _ _ _ _ _ _ _ _ _ (by-way (e .before .before .before .before)) _ _ (e .before .before .loop .inv) (e .before .loop-test .left) (e .if1 .left)
+
+-- and their row is changed
+by-change : (t : tie.Then2 Inv-loop μ-loop Inv-section μ-section) →
+    Changed _ _ _ _ _ _ _ _ _ (t .before .before .before .before .before .before .before .before .before .before .before .before .section .inv) (t .before .before .before .before .before .before .before .before .before .kind .given .0 .1 .1 .0) (t .before .before .before .before .before .before .before .before .before .kind .given .0 .1 .1 .1 .0) (t .before .before .before .loop .p + t .before .before .before .before .before .fields .given .0 .1 .1 .1 .0)
+by-change t =
+    change-ended _ _ _ _ _ _ _ _ _ (t .before .before .before .before .before .before .before .before .before .before .before .before .section .inv) (t .before .before .before .loop .p + t .before .before .before .before .before .fields .given .0 .1 .1 .1 .0) (by-head (t .before .before .before .before .before .before .before .before .before)) (t .if2 .taken) (by-end (t .before))
+    (omega (arith, t .before .before .before .loop .inv .behind)) (t .before .if1 .left)
+
 section-holds : tie.Need-section-holds Inv-loop μ-loop Inv-section μ-section
 section-holds c =
     let pre = c .before .before .pre in
@@ -41,18 +74,11 @@ head-at-requires c κs =
 
 sub-put-row : tie.Need-sub-put-row Inv-loop μ-loop Inv-section μ-section
 sub-put-row c =
-    let section = c .before .before .before .before .before .section in
-    let head-at = c .before .before .before .before .head-at in
-    let id = c .before .before .id in
-    let d = deleted _ _ _ _ _ _ _ _ _ (section .inv) (id .given .0 .0) (sym (head-at .ensures) ∙ ap toldHead (id .given .1)) in omega (arith, d .0)
+    let d = by-delete (c .before .before) in omega (arith, d .some)
 
 cast-put-row : tie.Need-cast-put-row Inv-loop μ-loop Inv-section μ-section
 cast-put-row c =
-    let shared-slice-known = c .before .before .before .before .before .before .before .shared-slice-known in
-    let section = c .before .before .before .before .before .section in
-    let head-at = c .before .before .before .before .head-at in
-    let id = c .before .before .id in
-    omega (arith, delete-small _ _ _ _ _ _ _ _ _ (section .inv) (id .given .0 .0) (λ i. shared-slice-known .given i .fits) (sym (head-at .ensures) ∙ ap toldHead (id .given .1)))
+    omega (arith, by-delete (c .before .before) .small)
 
 cast-put-row-2 : tie.Need-cast-put-row-2 Inv-loop μ-loop Inv-section μ-section
 cast-put-row-2 c =
@@ -69,159 +95,95 @@ put-row-requires c κs =
 add-at : tie.Need-add-at Inv-loop μ-loop Inv-section μ-section
 add-at c =
     let pre = c .before .before .before .before .before .before .before .before .before .before .before .pre in
-    let section = c .before .before .before .before .before .before .before .before .section in
-    let head-at = c .before .before .before .before .before .before .before .head-at in
-    let id = c .before .before .before .before .before .id in
-    let d = deleted _ _ _ _ _ _ _ _ _ (section .inv) (id .given .0 .0) (sym (head-at .ensures) ∙ ap toldHead (id .given .1)) in omega (arith, d .1, pre .2)
+    let d = by-delete (c .before .before .before .before .before) in omega (arith, d .within, pre .2)
 
 section-less : tie.Need-section-less Inv-loop μ-loop Inv-section μ-section
 section-less c =
-    let section = c .before .before .before .before .before .before .before .before .section in
-    let head-at = c .before .before .before .before .before .before .before .head-at in
-    let id = c .before .before .before .before .before .id in
-    let d = deleted _ _ _ _ _ _ _ _ _ (section .inv) (id .given .0 .0) (sym (head-at .ensures) ∙ ap toldHead (id .given .1)) in omega (arith, d .1)
+    let d = by-delete (c .before .before .before .before .before) in omega (arith, d .within)
 
 section-again : tie.Need-section-again Inv-loop μ-loop Inv-section μ-section
 section-again c =
-    let section = c .before .before .before .before .before .before .before .before .section in
-    let head-at = c .before .before .before .before .before .before .before .head-at in
-    let id = c .before .before .before .before .before .id in
     let put-row = c .before .before .put-row in
-    let d = deleted _ _ _ _ _ _ _ _ _ (section .inv) (id .given .0 .0) (sym (head-at .ensures) ∙ ap toldHead (id .given .1)) in rw (put-row .ensures) (d .2)
+    let d = by-delete (c .before .before .before .before .before) in rw (put-row .ensures) (d .next)
 
 way-over-requires : tie.Need-way-over-requires Inv-loop μ-loop Inv-section μ-section
 way-over-requires c κs =
     let pre = c .before .before .before .before .before .before .before .pre in
-    let shared-slice-known = c .before .before .before .before .before .before .shared-slice-known in
-    let section = c .before .before .before .before .section in
-    let head-at = c .before .before .before .head-at in
-    let kind = c .before .kind in
-    (pre .0, pre .1, (head-ahead _ _ _ _ _ _ _ _ _ (section .inv) (kind .given .0 .0) (kind .given .0 .1 .0) (kind .given .0 .1 .1 .0) (kind .given .0 .1 .1 .1 .0) (pre .0 .top) (λ i. shared-slice-known .given i .fits) (sym (head-at .ensures) ∙ ap toldHead (kind .given .1))) .number)
+    (pre .0, pre .1, by-head (c .before) .number)
 
 loop-holds : tie.Need-loop-holds Inv-loop μ-loop Inv-section μ-section
 loop-holds c =
-    let args = c .before .before .before .before .before .before .before .before .before .before .before .args in
-    let kind = c .before .before .before .before .before .kind in
-    let way-over = c .before .before .before .way-over in
-    let fields = c .before .fields in
-    let l : Led (args .words .now) (eqb (kind .given .0 .0) 3) (slotColumns (args .slots .now) (kind .given .0 .1 .0)) (args .section .now) (kind .given .0 .1 .1 .1 .0) ((fields .given .0) .0) ((fields .given .0) .1 .0) ((fields .given .0) .1 .1 .0) ((fields .given .0) .1 .1 .1 .0) ((fields .given .0) .1 .1 .1 .1 .0) = rw (fields .given .1) at (way-over .ensures) in way-start _ _ _ _ _ _ _ _ _ _ l
+    let l = by-way (c .before) in way-start _ _ _ _ _ _ _ _ _ _ l
 
 add-word : tie.Need-add-word Inv-loop μ-loop Inv-section μ-section
 add-word c =
-    let args = c .before .before .before .before .before .before .before .before .before .before .before .before .before .args in
-    let kind = c .before .before .before .before .before .before .before .kind in
-    let way-over = c .before .before .before .before .before .way-over in
-    let fields = c .before .before .before .fields in
-    let l : Led (args .words .now) (eqb (kind .given .0 .0) 3) (slotColumns (args .slots .now) (kind .given .0 .1 .0)) (args .section .now) (kind .given .0 .1 .1 .1 .0) ((fields .given .0) .0) ((fields .given .0) .1 .0) ((fields .given .0) .1 .1 .0) ((fields .given .0) .1 .1 .1 .0) ((fields .given .0) .1 .1 .1 .1 .0) = rw (fields .given .1) at (way-over .ensures) in omega (arith, l .inside, c .loop-test .taken)
+    let l = by-way (c .before .before .before) in omega (arith, l .inside, c .loop-test .taken)
 
 mul-word : tie.Need-mul-word Inv-loop μ-loop Inv-section μ-section
 mul-word c =
-    let args = c .before .before .before .before .before .before .before .before .before .before .before .before .before .args in
-    let kind = c .before .before .before .before .before .before .before .kind in
-    let way-over = c .before .before .before .before .before .way-over in
-    let fields = c .before .before .before .fields in
-    let l : Led (args .words .now) (eqb (kind .given .0 .0) 3) (slotColumns (args .slots .now) (kind .given .0 .1 .0)) (args .section .now) (kind .given .0 .1 .1 .1 .0) ((fields .given .0) .0) ((fields .given .0) .1 .0) ((fields .given .0) .1 .1 .0) ((fields .given .0) .1 .1 .1 .0) ((fields .given .0) .1 .1 .1 .1 .0) = rw (fields .given .1) at (way-over .ensures) in omega (arith, l .inside, c .loop-test .taken)
+    let l = by-way (c .before .before .before) in omega (arith, l .inside, c .loop-test .taken)
 
 element-copy-out-word : tie.Need-element-copy-out-word Inv-loop μ-loop Inv-section μ-section
 element-copy-out-word c =
-    let args = c .before .before .before .before .before .before .before .before .before .before .before .before .before .args in
-    let kind = c .before .before .before .before .before .before .before .kind in
-    let way-over = c .before .before .before .before .before .way-over in
-    let fields = c .before .before .before .fields in
-    let l : Led (args .words .now) (eqb (kind .given .0 .0) 3) (slotColumns (args .slots .now) (kind .given .0 .1 .0)) (args .section .now) (kind .given .0 .1 .1 .1 .0) ((fields .given .0) .0) ((fields .given .0) .1 .0) ((fields .given .0) .1 .1 .0) ((fields .given .0) .1 .1 .1 .0) ((fields .given .0) .1 .1 .1 .1 .0) = rw (fields .given .1) at (way-over .ensures) in omega (arith, l .inside, c .loop-test .taken)
+    let l = by-way (c .before .before .before) in omega (arith, l .inside, c .loop-test .taken)
 
 add-q : tie.Need-add-q Inv-loop μ-loop Inv-section μ-section
 add-q c =
-    let args = c .before .before .before .before .before .before .before .before .before .before .before .before .before .before .args in
     let pre = c .before .before .before .before .before .before .before .before .before .before .before .before .before .before .pre in
-    let kind = c .before .before .before .before .before .before .before .before .kind in
-    let way-over = c .before .before .before .before .before .before .way-over in
-    let fields = c .before .before .before .before .fields in
     let loop = c .before .before .loop in
-    let l : Led (args .words .now) (eqb (kind .given .0 .0) 3) (slotColumns (args .slots .now) (kind .given .0 .1 .0)) (args .section .now) (kind .given .0 .1 .1 .1 .0) ((fields .given .0) .0) ((fields .given .0) .1 .0) ((fields .given .0) .1 .1 .0) ((fields .given .0) .1 .1 .1 .0) ((fields .given .0) .1 .1 .1 .1 .0) = rw (fields .given .1) at (way-over .ensures) in omega (arith, loop .inv .far, l .few, pre .2, c .before .loop-test .taken)
+    let l = by-way (c .before .before .before .before) in omega (arith, loop .inv .far, l .few, pre .2, c .before .loop-test .taken)
 
 has-word-requires : tie.Need-has-word-requires Inv-loop μ-loop Inv-section μ-section
 has-word-requires c κs =
-    let args = c .before .before .before .before .before .before .before .before .before .before .before .before .before .before .args in
-    let kind = c .before .before .before .before .before .before .before .before .kind in
-    let way-over = c .before .before .before .before .before .before .way-over in
-    let fields = c .before .before .before .before .fields in
-    let l : Led (args .words .now) (eqb (kind .given .0 .0) 3) (slotColumns (args .slots .now) (kind .given .0 .1 .0)) (args .section .now) (kind .given .0 .1 .1 .1 .0) ((fields .given .0) .0) ((fields .given .0) .1 .0) ((fields .given .0) .1 .1 .0) ((fields .given .0) .1 .1 .1 .0) ((fields .given .0) .1 .1 .1 .1 .0) = rw (fields .given .1) at (way-over .ensures) in (l .starts, l .forces)
+    let l = by-way (c .before .before .before .before) in (l .starts, l .forces)
 
 span-at-requires : tie.Need-span-at-requires Inv-loop μ-loop Inv-section μ-section
 span-at-requires c κs =
-    let args = c .before .before .before .before .before .before .before .before .before .before .before .before .before .before .before .args in
-    let kind = c .before .before .before .before .before .before .before .before .before .kind in
-    let way-over = c .before .before .before .before .before .before .before .way-over in
-    let fields = c .before .before .before .before .before .fields in
     let loop = c .before .before .before .loop in
     let loop-test = c .before .before .loop-test in
-    let l : Led (args .words .now) (eqb (kind .given .0 .0) 3) (slotColumns (args .slots .now) (kind .given .0 .1 .0)) (args .section .now) (kind .given .0 .1 .1 .1 .0) ((fields .given .0) .0) ((fields .given .0) .1 .0) ((fields .given .0) .1 .1 .0) ((fields .given .0) .1 .1 .1 .0) ((fields .given .0) .1 .1 .1 .1 .0) = rw (fields .given .1) at (way-over .ensures) in (l .leads (loop .j) (loop-test .taken) .width, c .has-word .ensures .1)
+    let l = by-way (c .before .before .before .before .before) in (l .leads (loop .j) (loop-test .taken) .width, c .has-word .ensures .1)
 
 add-p : tie.Need-add-p Inv-loop μ-loop Inv-section μ-section
 add-p c =
     let args = c .before .before .before .before .before .before .before .before .before .before .before .before .before .before .before .before .before .before .before .args in
     let pre = c .before .before .before .before .before .before .before .before .before .before .before .before .before .before .before .before .before .before .before .pre in
-    let kind = c .before .before .before .before .before .before .before .before .before .before .before .before .before .kind in
-    let way-over = c .before .before .before .before .before .before .before .before .before .before .before .way-over in
     let fields = c .before .before .before .before .before .before .before .before .before .fields in
     let loop = c .before .before .before .before .before .before .before .loop in
     let loop-test = c .before .before .before .before .before .before .loop-test in
     let has-word = c .before .before .before .before .has-word in
     let span-at = c .before .before .before .span-at in
     let n = c .before .n in
-    let l : Led (args .words .now) (eqb (kind .given .0 .0) 3) (slotColumns (args .slots .now) (kind .given .0 .1 .0)) (args .section .now) (kind .given .0 .1 .1 .1 .0) ((fields .given .0) .0) ((fields .given .0) .1 .0) ((fields .given .0) .1 .1 .0) ((fields .given .0) .1 .1 .1 .0) ((fields .given .0) .1 .1 .1 .1 .0) = rw (fields .given .1) at (way-over .ensures) in
+    let l = by-way (c .before .before .before .before .before .before .before .before .before) in
     let sp : SpanIs (columnOf (getD (args .words .now) ((fields .given .0) .1 .0 + loop .j) 0)) (args .section .now) (loop .p + gapOf (getD (args .words .now) ((fields .given .0) .1 .0 + loop .j) 0)) (has-word .result) (span.Bytes (n .given .0 .0)) = rw (n .given .1) at (span-at .ensures) in
     omega (arith, sp .2, loop .inv .far, l .few, pre .2, loop-test .taken)
 
 loop-again : tie.Need-loop-again Inv-loop μ-loop Inv-section μ-section
 loop-again c =
     let args = c .before .before .before .before .before .before .before .before .before .before .before .before .before .before .before .before .before .before .before .args in
-    let kind = c .before .before .before .before .before .before .before .before .before .before .before .before .before .kind in
-    let way-over = c .before .before .before .before .before .before .before .before .before .before .before .way-over in
     let fields = c .before .before .before .before .before .before .before .before .before .fields in
     let loop = c .before .before .before .before .before .before .before .loop in
     let loop-test = c .before .before .before .before .before .before .loop-test in
     let has-word = c .before .before .before .before .has-word in
     let span-at = c .before .before .before .span-at in
     let n = c .before .n in
-    let l : Led (args .words .now) (eqb (kind .given .0 .0) 3) (slotColumns (args .slots .now) (kind .given .0 .1 .0)) (args .section .now) (kind .given .0 .1 .1 .1 .0) ((fields .given .0) .0) ((fields .given .0) .1 .0) ((fields .given .0) .1 .1 .0) ((fields .given .0) .1 .1 .1 .0) ((fields .given .0) .1 .1 .1 .1 .0) = rw (fields .given .1) at (way-over .ensures) in
+    let l = by-way (c .before .before .before .before .before .before .before .before .before) in
     let sp : SpanIs (columnOf (getD (args .words .now) ((fields .given .0) .1 .0 + loop .j) 0)) (args .section .now) (loop .p + gapOf (getD (args .words .now) ((fields .given .0) .1 .0 + loop .j) 0)) (has-word .result) (span.Bytes (n .given .0 .0)) = rw (n .given .1) at (span-at .ensures) in
     way-next _ _ _ _ _ _ _ _ _ _ l _ _ (loop .inv) (loop-test .taken) _ refl (has-word .result) (n .given .0 .0) (has-word .ensures .0) (sp .0) (sp .1) (sp .2)
 
 add-end : tie.Need-add-end Inv-loop μ-loop Inv-section μ-section
 add-end c =
-    let args = c .before .before .before .before .before .before .before .before .before .before .before .before .before .args in
     let pre = c .before .before .before .before .before .before .before .before .before .before .before .before .before .pre in
-    let kind = c .before .before .before .before .before .before .before .kind in
-    let way-over = c .before .before .before .before .before .way-over in
-    let fields = c .before .before .before .fields in
     let loop = c .before .loop in
-    let l : Led (args .words .now) (eqb (kind .given .0 .0) 3) (slotColumns (args .slots .now) (kind .given .0 .1 .0)) (args .section .now) (kind .given .0 .1 .1 .1 .0) ((fields .given .0) .0) ((fields .given .0) .1 .0) ((fields .given .0) .1 .1 .0) ((fields .given .0) .1 .1 .1 .0) ((fields .given .0) .1 .1 .1 .1 .0) = rw (fields .given .1) at (way-over .ensures) in omega (arith, loop .inv .far, loop .inv .most, l .few, l .small, pre .2)
+    let l = by-way (c .before .before .before) in omega (arith, loop .inv .far, loop .inv .most, l .few, l .small, pre .2)
 
 sub-put-row-2 : tie.Need-sub-put-row-2 Inv-loop μ-loop Inv-section μ-section
 sub-put-row-2 c =
-    let args = c .before .before .before .before .before .before .before .before .before .before .before .before .before .before .before .before .args in
-    let section = c .before .before .before .before .before .before .before .before .before .before .before .before .before .section in
-    let head-at = c .before .before .before .before .before .before .before .before .before .before .before .before .head-at in
-    let kind = c .before .before .before .before .before .before .before .before .before .before .kind in
-    let way-over = c .before .before .before .before .before .before .before .before .way-over in
-    let fields = c .before .before .before .before .before .before .fields in
-    let loop = c .before .before .before .before .loop in
-    let loop-test = c .before .before .before .loop-test in
-    let if1 = c .before .before .if1 in
-    let l : Led (args .words .now) (eqb (kind .given .0 .0) 3) (slotColumns (args .slots .now) (kind .given .0 .1 .0)) (args .section .now) (kind .given .0 .1 .1 .1 .0) ((fields .given .0) .0) ((fields .given .0) .1 .0) ((fields .given .0) .1 .1 .0) ((fields .given .0) .1 .1 .1 .0) ((fields .given .0) .1 .1 .1 .1 .0) = rw (fields .given .1) at (way-over .ensures) in
-    let ch = change-ended _ _ _ _ _ _ _ _ _ (section .inv) (kind .given .0 .0) (kind .given .0 .1 .0) (kind .given .0 .1 .1 .0) (kind .given .0 .1 .1 .1 .0) (loop .p + (fields .given .0) .1 .1 .1 .0) (sym (head-at .ensures) ∙ ap toldHead (kind .given .1)) (c .before .if2 .taken) (way-ended _ _ _ _ _ _ _ _ _ _ l _ _ (loop .inv) (loop-test .left) (if1 .left)) (omega (arith, loop .inv .behind)) (if1 .left) in
+    let ch = by-change (c .before) in
     omega (arith, ch .0)
 
 cast-put-row-3 : tie.Need-cast-put-row-3 Inv-loop μ-loop Inv-section μ-section
 cast-put-row-3 c =
-    let pre = c .before .before .before .before .before .before .before .before .before .before .before .before .before .before .before .before .pre in
-    let shared-slice-known = c .before .before .before .before .before .before .before .before .before .before .before .before .before .before .before .shared-slice-known in
-    let section = c .before .before .before .before .before .before .before .before .before .before .before .before .before .section in
-    let head-at = c .before .before .before .before .before .before .before .before .before .before .before .before .head-at in
-    let kind = c .before .before .before .before .before .before .before .before .before .before .kind in
-    omega (arith, (head-ahead _ _ _ _ _ _ _ _ _ (section .inv) (kind .given .0 .0) (kind .given .0 .1 .0) (kind .given .0 .1 .1 .0) (kind .given .0 .1 .1 .1 .0) (pre .0 .top) (λ i. shared-slice-known .given i .fits) (sym (head-at .ensures) ∙ ap toldHead (kind .given .1))) .small)
+    omega (arith, by-head (c .before .before .before .before .before .before .before .before .before .before) .small)
 
 cast-put-row-4 : tie.Need-cast-put-row-4 Inv-loop μ-loop Inv-section μ-section
 cast-put-row-4 c =
@@ -232,11 +194,7 @@ cast-put-row-4 c =
 cast-put-row-5 : tie.Need-cast-put-row-5 Inv-loop μ-loop Inv-section μ-section
 cast-put-row-5 c =
     let pre = c .before .before .before .before .before .before .before .before .before .before .before .before .before .before .before .before .pre in
-    let shared-slice-known = c .before .before .before .before .before .before .before .before .before .before .before .before .before .before .before .shared-slice-known in
-    let section = c .before .before .before .before .before .before .before .before .before .before .before .before .before .section in
-    let head-at = c .before .before .before .before .before .before .before .before .before .before .before .before .head-at in
-    let kind = c .before .before .before .before .before .before .before .before .before .before .kind in
-    omega (arith, (head-ahead _ _ _ _ _ _ _ _ _ (section .inv) (kind .given .0 .0) (kind .given .0 .1 .0) (kind .given .0 .1 .1 .0) (kind .given .0 .1 .1 .1 .0) (pre .0 .top) (λ i. shared-slice-known .given i .fits) (sym (head-at .ensures) ∙ ap toldHead (kind .given .1))) .within, pre .2)
+    omega (arith, by-head (c .before .before .before .before .before .before .before .before .before .before) .within, pre .2)
 
 put-row-requires-2 : tie.Need-put-row-requires-2 Inv-loop μ-loop Inv-section μ-section
 put-row-requires-2 c κs =
@@ -246,58 +204,28 @@ put-row-requires-2 c κs =
 
 section-less-2 : tie.Need-section-less-2 Inv-loop μ-loop Inv-section μ-section
 section-less-2 c =
-    let pre = c .before .before .before .before .before .before .before .before .before .before .before .before .before .before .before .before .before .before .before .pre in
-    let shared-slice-known = c .before .before .before .before .before .before .before .before .before .before .before .before .before .before .before .before .before .before .shared-slice-known in
-    let section = c .before .before .before .before .before .before .before .before .before .before .before .before .before .before .before .before .section in
-    let head-at = c .before .before .before .before .before .before .before .before .before .before .before .before .before .before .before .head-at in
-    let kind = c .before .before .before .before .before .before .before .before .before .before .before .before .before .kind in
     let loop = c .before .before .before .before .before .before .before .loop in
     let if1 = c .before .before .before .before .before .if1 in
-    omega (arith, (head-ahead _ _ _ _ _ _ _ _ _ (section .inv) (kind .given .0 .0) (kind .given .0 .1 .0) (kind .given .0 .1 .1 .0) (kind .given .0 .1 .1 .1 .0) (pre .0 .top) (λ i. shared-slice-known .given i .fits) (sym (head-at .ensures) ∙ ap toldHead (kind .given .1))) .behind, loop .inv .behind, if1 .left)
+    omega (arith, by-head (c .before .before .before .before .before .before .before .before .before .before .before .before .before) .behind, loop .inv .behind, if1 .left)
 
 section-again-2 : tie.Need-section-again-2 Inv-loop μ-loop Inv-section μ-section
 section-again-2 c =
-    let args = c .before .before .before .before .before .before .before .before .before .before .before .before .before .before .before .before .before .before .before .args in
-    let section = c .before .before .before .before .before .before .before .before .before .before .before .before .before .before .before .before .section in
-    let head-at = c .before .before .before .before .before .before .before .before .before .before .before .before .before .before .before .head-at in
-    let kind = c .before .before .before .before .before .before .before .before .before .before .before .before .before .kind in
-    let way-over = c .before .before .before .before .before .before .before .before .before .before .before .way-over in
-    let fields = c .before .before .before .before .before .before .before .before .before .fields in
-    let loop = c .before .before .before .before .before .before .before .loop in
-    let loop-test = c .before .before .before .before .before .before .loop-test in
-    let if1 = c .before .before .before .before .before .if1 in
-    let if2 = c .before .before .before .before .if2 in
     let put-row2 = c .before .before .put-row2 in
-    let l : Led (args .words .now) (eqb (kind .given .0 .0) 3) (slotColumns (args .slots .now) (kind .given .0 .1 .0)) (args .section .now) (kind .given .0 .1 .1 .1 .0) ((fields .given .0) .0) ((fields .given .0) .1 .0) ((fields .given .0) .1 .1 .0) ((fields .given .0) .1 .1 .1 .0) ((fields .given .0) .1 .1 .1 .1 .0) = rw (fields .given .1) at (way-over .ensures) in
-    let ch = change-ended _ _ _ _ _ _ _ _ _ (section .inv) (kind .given .0 .0) (kind .given .0 .1 .0) (kind .given .0 .1 .1 .0) (kind .given .0 .1 .1 .1 .0) (loop .p + (fields .given .0) .1 .1 .1 .0) (sym (head-at .ensures) ∙ ap toldHead (kind .given .1)) (if2 .taken) (way-ended _ _ _ _ _ _ _ _ _ _ l _ _ (loop .inv) (loop-test .left) (if1 .left)) (omega (arith, loop .inv .behind)) (if1 .left) in
+    let ch = by-change (c .before .before .before .before) in
     rw (put-row2 .ensures) (ch .1)
 
 cast-put-row-6 : tie.Need-cast-put-row-6 Inv-loop μ-loop Inv-section μ-section
 cast-put-row-6 c =
-    let pre = c .before .before .before .before .before .before .before .before .before .before .before .before .before .before .before .before .pre in
-    let shared-slice-known = c .before .before .before .before .before .before .before .before .before .before .before .before .before .before .before .shared-slice-known in
-    let section = c .before .before .before .before .before .before .before .before .before .before .before .before .before .section in
-    let head-at = c .before .before .before .before .before .before .before .before .before .before .before .before .head-at in
-    let kind = c .before .before .before .before .before .before .before .before .before .before .kind in
-    omega (arith, (head-ahead _ _ _ _ _ _ _ _ _ (section .inv) (kind .given .0 .0) (kind .given .0 .1 .0) (kind .given .0 .1 .1 .0) (kind .given .0 .1 .1 .1 .0) (pre .0 .top) (λ i. shared-slice-known .given i .fits) (sym (head-at .ensures) ∙ ap toldHead (kind .given .1))) .low)
+    omega (arith, by-head (c .before .before .before .before .before .before .before .before .before .before) .low)
 
 cast-put-row-7 : tie.Need-cast-put-row-7 Inv-loop μ-loop Inv-section μ-section
 cast-put-row-7 c =
-    let pre = c .before .before .before .before .before .before .before .before .before .before .before .before .before .before .before .before .pre in
-    let shared-slice-known = c .before .before .before .before .before .before .before .before .before .before .before .before .before .before .before .shared-slice-known in
-    let section = c .before .before .before .before .before .before .before .before .before .before .before .before .before .section in
-    let head-at = c .before .before .before .before .before .before .before .before .before .before .before .before .head-at in
-    let kind = c .before .before .before .before .before .before .before .before .before .before .kind in
-    omega (arith, (head-ahead _ _ _ _ _ _ _ _ _ (section .inv) (kind .given .0 .0) (kind .given .0 .1 .0) (kind .given .0 .1 .1 .0) (kind .given .0 .1 .1 .1 .0) (pre .0 .top) (λ i. shared-slice-known .given i .fits) (sym (head-at .ensures) ∙ ap toldHead (kind .given .1))) .small)
+    omega (arith, by-head (c .before .before .before .before .before .before .before .before .before .before) .small)
 
 cast-put-row-8 : tie.Need-cast-put-row-8 Inv-loop μ-loop Inv-section μ-section
 cast-put-row-8 c =
     let pre = c .before .before .before .before .before .before .before .before .before .before .before .before .before .before .before .before .pre in
-    let shared-slice-known = c .before .before .before .before .before .before .before .before .before .before .before .before .before .before .before .shared-slice-known in
-    let section = c .before .before .before .before .before .before .before .before .before .before .before .before .before .section in
-    let head-at = c .before .before .before .before .before .before .before .before .before .before .before .before .head-at in
-    let kind = c .before .before .before .before .before .before .before .before .before .before .kind in
-    omega (arith, (head-ahead _ _ _ _ _ _ _ _ _ (section .inv) (kind .given .0 .0) (kind .given .0 .1 .0) (kind .given .0 .1 .1 .0) (kind .given .0 .1 .1 .1 .0) (pre .0 .top) (λ i. shared-slice-known .given i .fits) (sym (head-at .ensures) ∙ ap toldHead (kind .given .1))) .within, pre .2)
+    omega (arith, by-head (c .before .before .before .before .before .before .before .before .before .before) .within, pre .2)
 
 put-row-requires-3 : tie.Need-put-row-requires-3 Inv-loop μ-loop Inv-section μ-section
 put-row-requires-3 c κs =
@@ -313,31 +241,19 @@ add-rows c =
 
 section-less-3 : tie.Need-section-less-3 Inv-loop μ-loop Inv-section μ-section
 section-less-3 c =
-    let pre = c .before .before .before .before .before .before .before .before .before .before .before .before .before .before .before .before .before .before .before .pre in
-    let shared-slice-known = c .before .before .before .before .before .before .before .before .before .before .before .before .before .before .before .before .before .before .shared-slice-known in
-    let section = c .before .before .before .before .before .before .before .before .before .before .before .before .before .before .before .before .section in
-    let head-at = c .before .before .before .before .before .before .before .before .before .before .before .before .before .before .before .head-at in
-    let kind = c .before .before .before .before .before .before .before .before .before .before .before .before .before .kind in
     let loop = c .before .before .before .before .before .before .before .loop in
     let if1 = c .before .before .before .before .before .if1 in
-    omega (arith, (head-ahead _ _ _ _ _ _ _ _ _ (section .inv) (kind .given .0 .0) (kind .given .0 .1 .0) (kind .given .0 .1 .1 .0) (kind .given .0 .1 .1 .1 .0) (pre .0 .top) (λ i. shared-slice-known .given i .fits) (sym (head-at .ensures) ∙ ap toldHead (kind .given .1))) .behind, loop .inv .behind, if1 .left)
+    omega (arith, by-head (c .before .before .before .before .before .before .before .before .before .before .before .before .before) .behind, loop .inv .behind, if1 .left)
 
 section-again-3 : tie.Need-section-again-3 Inv-loop μ-loop Inv-section μ-section
 section-again-3 c =
-    let args = c .before .before .before .before .before .before .before .before .before .before .before .before .before .before .before .before .before .before .before .args in
-    let pre = c .before .before .before .before .before .before .before .before .before .before .before .before .before .before .before .before .before .before .before .pre in
     let section = c .before .before .before .before .before .before .before .before .before .before .before .before .before .before .before .before .section in
-    let head-at = c .before .before .before .before .before .before .before .before .before .before .before .before .before .before .before .head-at in
-    let kind = c .before .before .before .before .before .before .before .before .before .before .before .before .before .kind in
-    let way-over = c .before .before .before .before .before .before .before .before .before .before .before .way-over in
     let fields = c .before .before .before .before .before .before .before .before .before .fields in
     let loop = c .before .before .before .before .before .before .before .loop in
-    let loop-test = c .before .before .before .before .before .before .loop-test in
     let if1 = c .before .before .before .before .before .if1 in
     let if2 = c .before .before .before .before .if2 in
     let put-row3 = c .before .before .put-row3 in
-    let l : Led (args .words .now) (eqb (kind .given .0 .0) 3) (slotColumns (args .slots .now) (kind .given .0 .1 .0)) (args .section .now) (kind .given .0 .1 .1 .1 .0) ((fields .given .0) .0) ((fields .given .0) .1 .0) ((fields .given .0) .1 .1 .0) ((fields .given .0) .1 .1 .1 .0) ((fields .given .0) .1 .1 .1 .1 .0) = rw (fields .given .1) at (way-over .ensures) in
-    rw (put-row3 .ensures) (row-ended _ _ _ _ _ _ _ _ _ (section .inv) (kind .given .0 .0) (kind .given .0 .1 .0) (kind .given .0 .1 .1 .0) (kind .given .0 .1 .1 .1 .0) (loop .p + (fields .given .0) .1 .1 .1 .0) (pre .0 .top) (sym (head-at .ensures) ∙ ap toldHead (kind .given .1)) (if2 .left) (way-ended _ _ _ _ _ _ _ _ _ _ l _ _ (loop .inv) (loop-test .left) (if1 .left)) (omega (arith, loop .inv .behind)) (if1 .left))
+    rw (put-row3 .ensures) (row-ended _ _ _ _ _ _ _ _ _ (section .inv) (loop .p + (fields .given .0) .1 .1 .1 .0) (by-head (c .before .before .before .before .before .before .before .before .before .before .before .before .before)) (if2 .left) (by-end (c .before .before .before .before .before)) (omega (arith, loop .inv .behind)) (if1 .left))
 
 same-length : tie.Need-same-length Inv-loop μ-loop Inv-section μ-section
 same-length c =
@@ -369,15 +285,12 @@ same-length-3 c =
 returns-3 : tie.Need-returns-3 Inv-loop μ-loop Inv-section μ-section
 returns-3 c =
     let args = c .before .before .before .before .before .before .before .before .before .before .before .args in
-    let pre = c .before .before .before .before .before .before .before .before .before .before .before .pre in
-    let shared-slice-known = c .before .before .before .before .before .before .before .before .before .before .shared-slice-known in
     let section = c .before .before .before .before .before .before .before .before .section in
-    let head-at = c .before .before .before .before .before .before .before .head-at in
     let kind = c .before .before .before .before .before .kind in
     let way-over = c .before .before .before .way-over in
     let e2 = c .before .e2 in
     let r : dataEnd (eqb (kind .given .0 .0) 3) (slotColumns (args .slots .now) (kind .given .0 .1 .0)) (args .section .now) (kind .given .0 .1 .1 .1 .0) ≡ refused (e2 .given .0 .0) = rw (e2 .given .1) at (way-over .ensures) in
-    scanned-refused _ _ _ _ _ _ (data-refused _ _ _ _ _ _ _ _ _ (section .inv) (kind .given .0 .0) (kind .given .0 .1 .0) (kind .given .0 .1 .1 .0) (kind .given .0 .1 .1 .1 .0) (sym (head-at .ensures) ∙ ap toldHead (kind .given .1)) ((head-ahead _ _ _ _ _ _ _ _ _ (section .inv) (kind .given .0 .0) (kind .given .0 .1 .0) (kind .given .0 .1 .1 .0) (kind .given .0 .1 .1 .1 .0) (pre .0 .top) (λ i. shared-slice-known .given i .fits) (sym (head-at .ensures) ∙ ap toldHead (kind .given .1))) .number) r)
+    scanned-refused _ _ _ _ _ _ (data-refused _ _ _ _ _ _ _ _ _ (section .inv) (by-head (c .before .before .before .before .before)) r)
 
 same-length-4 : tie.Need-same-length-4 Inv-loop μ-loop Inv-section μ-section
 same-length-4 c =
@@ -387,21 +300,16 @@ same-length-4 c =
 returns-4 : tie.Need-returns-4 Inv-loop μ-loop Inv-section μ-section
 returns-4 c =
     let args = c .before .before .before .before .before .before .before .before .before .before .before .before .before .before .before .before .before .before .before .args in
-    let pre = c .before .before .before .before .before .before .before .before .before .before .before .before .before .before .before .before .before .before .before .pre in
-    let shared-slice-known = c .before .before .before .before .before .before .before .before .before .before .before .before .before .before .before .before .before .before .shared-slice-known in
     let section = c .before .before .before .before .before .before .before .before .before .before .before .before .before .before .before .before .section in
-    let head-at = c .before .before .before .before .before .before .before .before .before .before .before .before .before .before .before .head-at in
-    let kind = c .before .before .before .before .before .before .before .before .before .before .before .before .before .kind in
-    let way-over = c .before .before .before .before .before .before .before .before .before .before .before .way-over in
     let fields = c .before .before .before .before .before .before .before .before .before .fields in
     let loop = c .before .before .before .before .before .before .before .loop in
     let loop-test = c .before .before .before .before .before .before .loop-test in
     let has-word = c .before .before .before .before .has-word in
     let span-at = c .before .before .before .span-at in
     let k = c .before .k in
-    let l : Led (args .words .now) (eqb (kind .given .0 .0) 3) (slotColumns (args .slots .now) (kind .given .0 .1 .0)) (args .section .now) (kind .given .0 .1 .1 .1 .0) ((fields .given .0) .0) ((fields .given .0) .1 .0) ((fields .given .0) .1 .1 .0) ((fields .given .0) .1 .1 .1 .0) ((fields .given .0) .1 .1 .1 .1 .0) = rw (fields .given .1) at (way-over .ensures) in
+    let l = by-way (c .before .before .before .before .before .before .before .before .before) in
     let sp : SpanIs (columnOf (getD (args .words .now) ((fields .given .0) .1 .0 + loop .j) 0)) (args .section .now) (loop .p + gapOf (getD (args .words .now) ((fields .given .0) .1 .0 + loop .j) 0)) (has-word .result) (span.Refused (k .given .0 .0)) = rw (k .given .1) at (span-at .ensures) in
-    scanned-refused _ _ _ _ _ _ (data-refused _ _ _ _ _ _ _ _ _ (section .inv) (kind .given .0 .0) (kind .given .0 .1 .0) (kind .given .0 .1 .1 .0) (kind .given .0 .1 .1 .1 .0) (sym (head-at .ensures) ∙ ap toldHead (kind .given .1)) ((head-ahead _ _ _ _ _ _ _ _ _ (section .inv) (kind .given .0 .0) (kind .given .0 .1 .0) (kind .given .0 .1 .1 .0) (kind .given .0 .1 .1 .1 .0) (pre .0 .top) (λ i. shared-slice-known .given i .fits) (sym (head-at .ensures) ∙ ap toldHead (kind .given .1))) .number) (way-refused _ _ _ _ _ _ _ _ _ _ l _ _ (loop .inv) (loop-test .taken) _ refl (k .given .0 .0) (has-word .result) (has-word .ensures .0) (sp .0) (sp .1)))
+    scanned-refused _ _ _ _ _ _ (data-refused _ _ _ _ _ _ _ _ _ (section .inv) (by-head (c .before .before .before .before .before .before .before .before .before .before .before .before .before)) (way-refused _ _ _ _ _ _ _ _ _ _ l _ _ (loop .inv) (loop-test .taken) _ refl (k .given .0 .0) (has-word .result) (has-word .ensures .0) (sp .0) (sp .1)))
 
 same-length-5 : tie.Need-same-length-5 Inv-loop μ-loop Inv-section μ-section
 same-length-5 c =
@@ -410,17 +318,10 @@ same-length-5 c =
 
 returns-5 : tie.Need-returns-5 Inv-loop μ-loop Inv-section μ-section
 returns-5 c =
-    let args = c .before .before .before .before .before .before .before .before .before .before .before .before .before .before .args in
-    let pre = c .before .before .before .before .before .before .before .before .before .before .before .before .before .before .pre in
-    let shared-slice-known = c .before .before .before .before .before .before .before .before .before .before .before .before .before .shared-slice-known in
     let section = c .before .before .before .before .before .before .before .before .before .before .before .section in
-    let head-at = c .before .before .before .before .before .before .before .before .before .before .head-at in
-    let kind = c .before .before .before .before .before .before .before .before .kind in
-    let way-over = c .before .before .before .before .before .before .way-over in
-    let fields = c .before .before .before .before .fields in
     let loop = c .before .before .loop in
-    let l : Led (args .words .now) (eqb (kind .given .0 .0) 3) (slotColumns (args .slots .now) (kind .given .0 .1 .0)) (args .section .now) (kind .given .0 .1 .1 .1 .0) ((fields .given .0) .0) ((fields .given .0) .1 .0) ((fields .given .0) .1 .1 .0) ((fields .given .0) .1 .1 .1 .0) ((fields .given .0) .1 .1 .1 .1 .0) = rw (fields .given .1) at (way-over .ensures) in
-    scanned-refused _ _ _ _ _ _ (data-refused _ _ _ _ _ _ _ _ _ (section .inv) (kind .given .0 .0) (kind .given .0 .1 .0) (kind .given .0 .1 .1 .0) (kind .given .0 .1 .1 .1 .0) (sym (head-at .ensures) ∙ ap toldHead (kind .given .1)) ((head-ahead _ _ _ _ _ _ _ _ _ (section .inv) (kind .given .0 .0) (kind .given .0 .1 .0) (kind .given .0 .1 .1 .0) (kind .given .0 .1 .1 .1 .0) (pre .0 .top) (λ i. shared-slice-known .given i .fits) (sym (head-at .ensures) ∙ ap toldHead (kind .given .1))) .number) (way-short _ _ _ _ _ _ _ _ _ _ l _ _ (loop .inv) (c .before .loop-test .left) (c .if1 .taken)))
+    let l = by-way (c .before .before .before .before) in
+    scanned-refused _ _ _ _ _ _ (data-refused _ _ _ _ _ _ _ _ _ (section .inv) (by-head (c .before .before .before .before .before .before .before .before)) (way-short _ _ _ _ _ _ _ _ _ _ l _ _ (loop .inv) (c .before .loop-test .left) (c .if1 .taken)))
 
 pub scan-spec : {M : Type 1} → statement M
 scan-spec =

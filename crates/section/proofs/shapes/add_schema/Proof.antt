@@ -6,10 +6,10 @@ use mathlib.Core.Bool.{Bool}
 use mathlib.Core.List.{map}
 use native.Mathlib.Omega.{arith}
 use lib.ListN.{getD}
+use Rattle.column.proofs.Stops.{width-few}
 use Rattle.row.specs.Presence.{one}
 use Rattle.schema.specs.Schemas.{asColumn}
 use Rattle.schema.specs.Table.{entriesIn}
-use Rattle.section.proofs.Words.{width-few}
 use Rattle.section.proofs.Growth.{Growing, one-most, grow-start, grow-stop, grow-plain, grow-fits, grow-end, slots-length, slots-column}
 use borrow.Author.Needs.{needs}
 use Rattle.section.proofs.shapes.add_schema.Statement.{statement}

@@ -5,8 +5,8 @@ use mathlib.Core.Path.{ap, _∙_}
 use native.Mathlib.Omega.{arith}
 use Rattle.column.specs.declared.column.Column.{Column}
 use Rattle.column.specs.Columns.{width}
+use Rattle.column.proofs.Stops.{width-few}
 use Rattle.section.specs.Shapes.{wordOf}
-use Rattle.section.proofs.Words.{width-few}
 use borrow.Author.Needs.{needs}
 use Rattle.section.proofs.shapes.word_of.Statement.{statement}
 use Rattle.section.proofs.shapes.word_of.Tie as tie
