@@ -18,8 +18,8 @@ const USAGE: &str = "usage: compare vectors FOLDER
        compare random [--seed S] [--seconds N | --cases N]
        compare soak [--seed S] [--minutes N] [--threads N]
        compare bench [--count [fixed|nullable|eight|variable COLUMN]]
-       compare bench sections [--count [short|wide|nested]]
-       compare bench batch [--count [short|wide|nested]]";
+       compare bench sections [--count [short|wide|nested|page]]
+       compare bench batch [--count [short|wide|nested|page]]";
 
 const DEFAULT_SEED: u64 = 1;
 const DEFAULT_CASES: u64 = 200_000;

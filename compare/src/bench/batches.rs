@@ -51,7 +51,7 @@ impl Asked {
                     ]
                 }
             }
-            Rows::Nested => {
+            Rows::Nested | Rows::Page => {
                 const {
                     &[
                         Asked::new(Owner::Parents, 0, 5),
@@ -86,15 +86,15 @@ const WAYS: usize = 3;
 /// Measures all cases and prints the table. Sides that do not agree are not measured.
 pub fn run() -> Result<Totals, String> {
     let mut totals = Totals::default();
-    println!("Finding one column in sections of {BYTES_OF_SECTION} bytes: nanoseconds for a row");
-    println!("of the owner (medians of {ROUNDS} rounds):\n");
+    println!("Finding one column in sections of {BYTES_OF_SECTION} bytes and in a page of rows:");
+    println!("nanoseconds for a row of the owner (medians of {ROUNDS} rounds):\n");
     println!("{}", head());
     each_case(None, |rows, case| {
         let of_case = compare(rows, case);
         totals.cases += of_case.cases;
         totals.differ += of_case.differ;
         if of_case.differ == 0 {
-            println!("{}", line(rows, case, measure(case)));
+            println!("{}", line(rows, case, measure(case, rows.size().1)));
         }
     })?;
     println!();
@@ -233,15 +233,17 @@ fn compare(rows: Rows, case: &Case) -> Totals {
 }
 
 /// The medians of the ways, in nanoseconds for a row of the owner.
-fn measure(case: &Case) -> [f64; WAYS] {
+fn measure(case: &Case, times: usize) -> [f64; WAYS] {
     let mut spans = case.spans();
-    let count = case.count() as f64;
+    let count = (case.count() * times) as f64;
     let mut rounds: [Vec<f64>; WAYS] = Default::default();
     for round in 0..ROUNDS {
         for turn in 0..WAYS {
             let way = (round + turn) % WAYS;
             let started = Instant::now();
-            let _ = black_box(black_box(case).find(way, black_box(&mut spans)));
+            for _ in 0..times {
+                let _ = black_box(black_box(case).find(way, black_box(&mut spans)));
+            }
             rounds[way].push(started.elapsed().as_nanos() as f64 / count);
         }
     }

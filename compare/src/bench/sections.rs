@@ -14,8 +14,12 @@ use crate::reading::Input;
 use crate::text::{agree, Text};
 use crate::Totals;
 
-/// How many bytes a section has, to the end of a row.
+/// How many bytes a section has, to the end of a row; and a page of rows, as a desk asks for it.
 pub(super) const BYTES_OF_SECTION: usize = 8_000_000;
+const BYTES_OF_PAGE: usize = 10_000;
+
+/// How often a page is gone over in a round.
+const PAGES: usize = 100;
 
 /// How many rounds a case has. In a round each side reads the section once; the other side comes
 /// first in the next.
@@ -35,10 +39,12 @@ pub(super) enum Rows {
     Wide,
     /// Parents, and children at two levels that are unchanged, changed or deleted.
     Nested,
+    /// A page of such rows.
+    Page,
 }
 
 impl Rows {
-    pub(super) const ALL: [Rows; 3] = [Rows::Short, Rows::Wide, Rows::Nested];
+    pub(super) const ALL: [Rows; 4] = [Rows::Short, Rows::Wide, Rows::Nested, Rows::Page];
 
     /// The name by which a case is asked for.
     pub(super) fn name(self) -> &'static str {
@@ -46,6 +52,15 @@ impl Rows {
             Rows::Short => "short",
             Rows::Wide => "wide",
             Rows::Nested => "nested",
+            Rows::Page => "page",
+        }
+    }
+
+    /// How many bytes the section has, and how often it is read in a round.
+    pub(super) fn size(self) -> (usize, usize) {
+        match self {
+            Rows::Page => (BYTES_OF_PAGE, PAGES),
+            _ => (BYTES_OF_SECTION, 1),
         }
     }
 
@@ -64,7 +79,7 @@ impl Rows {
                 }
                 generate::groups(&numbers)
             }
-            Rows::Nested => {
+            Rows::Nested | Rows::Page => {
                 let mut numbers = vec![7, 0x03, 0, 0x48, 0, 0x05, 0, text, 0, 60];
                 numbers.extend([wide, 1, 40, 0x0B, 1, chapter, 1, 7]);
                 numbers.extend([6, 0x03, 0, 0x06, 1, text, 1, 60, bytes, 1, 300]);
@@ -89,7 +104,7 @@ impl Case {
         let file = rows.file();
         let schemas = SchemaFile::read(&file, Input::Only).map_err(|error| error.text())?;
         let mut section = Section::default();
-        while section.size() < BYTES_OF_SECTION {
+        while section.size() < rows.size().0 {
             let number = random.below(schemas.schema_count());
             section.add_row(&mut random, &file, &schemas, number);
         }
@@ -109,7 +124,9 @@ impl Case {
 /// Measures all cases and prints the table. Sides that do not agree are not measured.
 pub fn run() -> Result<Totals, String> {
     let mut totals = Totals::default();
-    println!("Reading whole sections of {BYTES_OF_SECTION} bytes (medians of {ROUNDS} rounds):\n");
+    println!(
+        "Reading whole sections of {BYTES_OF_SECTION} bytes, a page of {BYTES_OF_PAGE} (medians of {ROUNDS} rounds):\n"
+    );
     println!("{}", head());
     for rows in Rows::ALL {
         let case = Case::new(rows)?;
@@ -117,7 +134,7 @@ pub fn run() -> Result<Totals, String> {
         totals.cases += of_case.cases;
         totals.differ += of_case.differ;
         if of_case.differ == 0 {
-            println!("{}", line(rows, &case, measure(&case)));
+            println!("{}", line(rows, &case, measure(&case, rows.size().1)));
         }
     }
     println!();
@@ -168,20 +185,22 @@ fn compare(rows: Rows, case: &Case) -> Totals {
 }
 
 /// The medians of archive and reading, in nanoseconds for a whole section.
-fn measure(case: &Case) -> [f64; 2] {
+fn measure(case: &Case, times: usize) -> [f64; 2] {
     let mut table = vec![BEFORE; case.wanted.len()];
     let mut rounds: [Vec<f64>; 2] = Default::default();
     for round in 0..ROUNDS {
         for turn in 0..2 {
             let side = (round + turn) % 2;
             let started = Instant::now();
-            let (file, section) = (black_box(&case.file), black_box(&case.section));
-            if side == 0 {
-                let _ = black_box(archive::read_section(file, section, black_box(&mut table)));
-            } else {
-                let _ = black_box(read_section(file, section, black_box(&mut table)));
+            for _ in 0..times {
+                let (file, section) = (black_box(&case.file), black_box(&case.section));
+                if side == 0 {
+                    let _ = black_box(archive::read_section(file, section, black_box(&mut table)));
+                } else {
+                    let _ = black_box(read_section(file, section, black_box(&mut table)));
+                }
             }
-            rounds[side].push(started.elapsed().as_nanos() as f64);
+            rounds[side].push(started.elapsed().as_nanos() as f64 / times as f64);
         }
     }
     rounds.map(median)

@@ -5,6 +5,7 @@
 use super::forged::forged;
 use super::plans::make;
 use super::schema::SOUND;
+use super::sections::HELD;
 use super::{all_and_past, capacity, complaints, damage, filled_complaints, Call, Run};
 use crate::archive::{self, Fault};
 use crate::generate::{self, Section};
@@ -38,7 +39,7 @@ const OF_BATCH: &[ErrorCode] = &[
     ErrorCode::Oversize,
 ];
 
-/// The most rows of a section.
+/// The most rows of a section, but for a few long ones.
 const MAX_ROWS: usize = 10;
 
 /// What a batch is asked for, all but the plan and the column.
@@ -233,7 +234,18 @@ fn section_and_rows(
     index: usize,
 ) -> (Vec<u8>, Vec<u32>) {
     let mut section = Section::default();
-    for _ in 0..random.below(MAX_ROWS + 1) {
+    // At times about as many rows as the archive holds on its way; it goes over more twice.
+    let many = random.one_in(256);
+    let rows = if many {
+        random.between(HELD - 2, HELD + 3)
+    } else {
+        random.below(MAX_ROWS + 1)
+    };
+    for _ in 0..rows {
+        if many {
+            section.add_row(random, file, schemas, index);
+            continue;
+        }
         let any = random.below(schemas.schema_count());
         let number = random.pick(&[index, index, any]);
         section.add_row(random, file, schemas, number);

@@ -4,7 +4,7 @@ use super::row_data::{Form, Subject};
 use super::rows::REFUSED;
 use super::{complaints, damage, filled_complaints, schema, Call, Run};
 use crate::archive;
-use crate::generate::{self, Shape};
+use crate::generate::{self, Section, Shape};
 use crate::random::Random;
 use crate::reading::column::{BYTES, CHAPTER, TEXT};
 use crate::reading::schema::{SchemaFile, MAX_FILE_COLUMNS};
@@ -43,12 +43,19 @@ const LONGEST: usize = 32_767;
 /// How many sections are made under one file.
 const SECTIONS: usize = 4;
 
+/// How many rows the archive holds on its way over a section; it goes over longer ones twice.
+pub(super) const HELD: usize = 256;
+
 /// Sections under one file, each with a table, and at times with another file.
 pub(super) fn read_case(random: &mut Random, run: &mut Run) {
     let sound = sound_file(random);
     let schemas = SchemaFile::read(&sound, Input::Schema).expect("the file is sound");
     for _ in 0..SECTIONS {
-        let section = Maker::new(&sound, &schemas).section(random);
+        let section = if random.one_in(256) {
+            long_section(random, &sound, &schemas)
+        } else {
+            Maker::new(&sound, &schemas).section(random)
+        };
         let mut file = sound.clone();
         match random.below(32) {
             0 => file = schema::input(random),
@@ -60,6 +67,20 @@ pub(super) fn read_case(random: &mut Random, run: &mut Run) {
         let before: Vec<u32> = (0..space).map(|_| random.bits() as u32).collect();
         read(&file, &section, &before, run);
     }
+}
+
+/// A section of about as many rows as the archive holds, at times damaged.
+fn long_section(random: &mut Random, sound: &[u8], schemas: &SchemaFile) -> Vec<u8> {
+    let mut section = Section::default();
+    for _ in 0..random.between(HELD - 2, HELD + 3) {
+        let number = random.below(schemas.schema_count());
+        section.add_row(random, sound, schemas, number);
+    }
+    let (mut section, _) = section.end();
+    if random.one_in(3) {
+        damage(random, &mut section);
+    }
+    section
 }
 
 /// A file that keeps the rules, at times one with many schemas.
