@@ -8,7 +8,7 @@ ghost use Rattle.wire.specs.Read.{Bytes, limit};
 ghost use Rattle.wire.specs.Integers.{toldInt, intBytes};
 ghost use Rattle.wire.specs.Output.{put};
 ghost use Rattle.column.specs.Columns.{prefixBytes};
-ghost use Rattle.column.specs.Layout.{columnsFrom, columnsIn};
+ghost use Rattle.column.specs.Layout.{columnIn, columnsFrom, columnsIn};
 ghost use Rattle.row.specs.Presence.{one};
 ghost use Rattle.encode.specs.Entries.{null, given, givenAt, givensFrom, isEntry, areEntries, entryOf};
 ghost use Rattle.encode.specs.Encoding.{byteOf, packIn, pack, fieldBytes, entryBytes, fieldsOf};
@@ -17,7 +17,6 @@ ghost use Rattle.encode.specs.Steps.{standsIn, rowIn, mapsIn, fieldsSize
 use column::column::Column;
 use column::column::LengthCheck;
 use column::columns::Columns;
-use column::columns::column_of;
 use wire::LIMIT;
 use wire::bits::map_bytes;
 use wire::bytes::copy_into;
@@ -34,6 +33,23 @@ enum Map {
     Presence,
     Update,
     Force,
+}
+
+// Column `i` of a schema's arrays.
+fn column_of<'a>(
+    codes: &'a [u8; 64],
+    flags: &'a [u8; 64],
+    maxima: &'a [u16; 64],
+    i: usize,
+) -> Column
+    requires { ⌜ i < 64 ⌝ }
+    ensures { λ r. ⌜ r ≡ columnIn (now (codes .entry)) (now (flags .entry)) (now (maxima .entry)) i ⌝ }
+{
+    Column {
+        code: codes[i],
+        flags: flags[i],
+        maximum: maxima[i],
+    }
 }
 
 // 1 where so, else 0.

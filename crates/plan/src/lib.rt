@@ -1,6 +1,7 @@
 // Column plans: what a plan holds of a schema's columns, and the look-up through it, which jumps from stop to stop.
 ghost use mathlib.Core.Path.{_≡_};
 ghost use Prim.Native.Nat.{_≤_, _<_};
+ghost use Rattle.column.specs.Layout.{columnIn};
 ghost use Rattle.row.specs.Presence.{one};
 ghost use Rattle.plan.specs.Packed.{unpacked, gapIn, bitIn, widthIn};
 use column::column::Column;
@@ -20,6 +21,23 @@ fn one(so: bool) -> usize
         return 1;
     }
     0
+}
+
+// Column `i` of the arrays of a schema's columns.
+fn column_of<'a>(
+    codes: &'a [u8; 64],
+    flags: &'a [u8; 64],
+    maxima: &'a [u16; 64],
+    i: usize,
+) -> Column
+    requires { ⌜ i < 64 ⌝ }
+    ensures { λ r. ⌜ r ≡ columnIn (now (codes .entry)) (now (flags .entry)) (now (maxima .entry)) i ⌝ }
+{
+    Column {
+        code: codes[i],
+        flags: flags[i],
+        maximum: maxima[i],
+    }
 }
 
 // The column in a plan's number.

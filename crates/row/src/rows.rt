@@ -11,9 +11,9 @@ ghost use Rattle.row.specs.Rows.{opened, place, walk, rowEnd, lookUp, lo
 ghost use Rattle.wire.specs.declared.error.Input.the-variants as input;
 ghost use Rattle.row.specs.declared.rows.LookUp.the-variants as look;
 ghost use Rattle.row.specs.Told.{toldWalk, toldLookUp};
+use crate::column_of;
 use column::column::Column;
 use column::columns::Columns;
-use column::columns::column_of;
 use column::field::Field;
 use column::field::FieldRead;
 use column::field::field_at;
