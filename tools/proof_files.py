@@ -12,10 +12,11 @@ A source has a block for each function:
     inv loop: i ≤ n                   a loop's invariant, over the loop's own variables
     measure loop: n - i
     need returns unfolding opened: sym (opened-short (@args .row .now) (@if1 .taken))
+    fact by-end e Else1: ends (@loop .p) := way-ended _ (@loop .inv)    a law of the file over a record of places
 
 A line goes on over the lines below it that are indented. `def $NAME text`, at the top or in a block, is replaced where
-`$NAME` stands. `@x` is the nearest record with a field x on the way from c through .before, `@x^2` the one behind it; each
-becomes a `let`. A need that no line names is `search needs`.
+`$NAME` stands. `@x` is the nearest field x on the way from c through .before, `@x^2` the one behind it; each becomes a `let`.
+`#x` is the record that has this field, for a fact. A need that no line names is `search needs`.
 
 The checker offers a skeleton only where a function has no proof file, so the files of the functions asked for are set aside
 while the crate is checked twice; with --needs they are put back. What it says is kept in target/proof_files/CRATE/said.
@@ -46,7 +47,7 @@ def read_source(path):
             continue
         word, _, rest = line.partition(' ')
         if word == 'fn':
-            block = dict(fn=rest.strip(), doc='', uses=[], inv={}, measure={}, needs={}, defs=[])
+            block = dict(fn=rest.strip(), doc='', uses=[], inv={}, measure={}, needs={}, facts=[], defs=[])
             blocks.append(block)
             last = None
         elif word == 'def':
@@ -60,6 +61,10 @@ def read_source(path):
         elif word in ('inv', 'measure'):
             name, _, text = rest.partition(':')
             block[word][name] = last = [text.strip()]
+        elif word == 'fact':
+            m = re.match(r'(\S+) (\S+) (\S+):\s*(.*)', rest)
+            last = list(m.groups())
+            block['facts'].append(last)
         elif word == 'need':
             m = re.match(r'(\S+?)(?: unfolding ([^:]*))?:\s*(.*)', rest)
             block['needs'][m.group(1)] = last = [m.group(2) or '', m.group(3)]
@@ -109,8 +114,7 @@ def records(fn):
     return fields, given
 
 
-def places(fields, record):
-    at = 'c'
+def places(fields, record, at='c'):
     while record in fields:
         after = next((t for n, t in fields[record] if n == 'before'), None)
         yield from ((n, f'{at} .{n}') for n, _ in fields[record] if n != 'before')
@@ -126,6 +130,25 @@ def expand(text, defs):
         for name, body in sorted(defs, key=lambda d: -len(d[0])):
             text = text.replace(name, body)
     return text
+
+
+def holder(name, known):
+    """The record that has a field of this name, in brackets where it is not c itself."""
+    hits = [p[:-len(n) - 2] for n, p in known if n == name]
+    if not hits:
+        sys.exit(f"no record with {name} among {' '.join(n for n, _ in known)}")
+    return f'({hits[0]})' if ' ' in hits[0] else hits[0]
+
+
+def fact_lines(fact, fields, suffix, defs):
+    """A law of the file over a record of places, which stand in it in full."""
+    name, var, record, text = fact
+    known = list(places(fields, record, var))
+    text = re.sub(r'#([\w\-·]+)', lambda m: holder(m.group(1), known), expand(text, defs))
+    paths = dict(reversed(known))
+    text = re.sub(r'@([\w\-·]+)', lambda m: f'({paths[m.group(1)]})', text)
+    kind, _, body = text.partition(':=')
+    return [f'{name} : ({var} : tie.{record}{suffix}) → {kind.strip()}', f'{name} {var} = {body.strip()}', '']
 
 
 def need_lines(block, name, head, args, known, defs):
@@ -150,6 +173,7 @@ def need_lines(block, name, head, args, known, defs):
         lets[var] = path
         return var
 
+    text = re.sub(r'#([\w\-·]+)', lambda m: holder(m.group(1), known), text)
     body = re.sub(r'@([\w\-·]+)(?:\^(\d))?', place, text)
     lines = [f'let {v} = {p} in' for v, p in sorted(lets.items(), key=lambda x: -x[1].count('.before'))]
     lines += [line.strip() for line in body.strip().split('\n')]
@@ -168,6 +192,9 @@ def write(block, skeleton, shared):
         text = block['inv' if m.group(1) == 'Inv-' else 'measure'][m.group(2)][0]
         out += [f'abbrev {m.group(1)}{m.group(2)} : {m.group(3)}', ' '.join(m.group(4).split()) + ' = ' + expand(text, defs), '']
     takes = {}
+    suffix = re.search(r': tie\.Need-\S+(.*)', skeleton).group(1)
+    for fact in block['facts']:
+        out += fact_lines(fact, fields, suffix, defs)
     for m in re.finditer(r'^(\S+) : (tie\.Need-(\S+).*)\n\1 (c(?: κs)?) = (?:\?|search needs)', skeleton, re.M):
         takes[m.group(1)] = m.group(4)
         if m.group(1) in block['needs']:

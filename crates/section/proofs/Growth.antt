@@ -14,7 +14,7 @@ use lib.Seq.{take-all, getD-set-same, getD-set-other, getD-append-seam}
 use Rattle.wire.specs.Read.{pick}
 use Rattle.wire.specs.Bits.{mapBytes}
 use Rattle.column.specs.declared.column.Column.{Column}
-use Rattle.column.specs.Columns.{width, isChapter, isNullable, isStop}
+use Rattle.column.specs.Columns.{width, isNullable, isStop}
 use Rattle.column.proofs.Stops.{width-few}
 use Rattle.row.specs.Presence.{noColumn, one, presenceBytes, Mark, mark, noMark, marks, bitOf}
 use Rattle.row.proofs.Laws.{bit-zero, bit-next, bit-all, length-marks, mark-at, map-few}
@@ -22,8 +22,8 @@ use Rattle.schema.specs.Schemas.{entry, asColumn, Schema, schema, columnCount}
 use Rattle.schema.specs.Table.{startIn, countIn, schemaSlot, entryIn, entriesIn, schemaIn, schemasIn}
 use Rattle.schema.proofs.TableSays.{entries-length, entries-at, schemas-in-length, schemas-in-at}
 use Rattle.section.specs.Steps.{Step, stepTo, noStep, stepsFrom, tailFrom}
-use Rattle.section.specs.Shapes.{wordOf, formOf, firstIn, stepsIn, mapIn, tailIn, markedIn, chaptersIn, markedCount, chapterCount, Says, SayAll, SaysColumn, updateWords, slotColumns, rowSteps, Formed, Sound, Shaped, Added, AllUpdates, AllForms}
-use Rattle.section.proofs.Words.{word-column, word-gap, word-bit, word-width, form-first, form-steps, form-map, form-tail, form-marked, form-chapters}
+use Rattle.section.specs.Shapes.{wordOf, formOf, firstIn, stepsIn, mapIn, tailIn, Says, SayAll, SaysColumn, updateWords, slotColumns, rowSteps, Formed, Sound, Shaped, Added, AllUpdates, AllForms}
+use Rattle.section.proofs.Words.{word-column, word-gap, word-bit, word-width, form-first, form-steps, form-map, form-tail}
 
 -- One column more.
 
@@ -71,22 +71,6 @@ module _ (stop : Column → Bool) where
           ≡ more (pick t (tailFrom stop 0 (take i ms)) (tailFrom stop (g + width (m .column)) (take i ms)))
       go true a b = a
       go false a b = b
-
--- a nullable chapter, or not
-marked-suc :
-    (cs : List Column) (i : ℕ) → i < length cs →
-    markedCount (take (suc i) cs) ≡ markedCount (take i cs) + one (pick (isChapter (getD cs i noColumn)) (isNullable (getD cs i noColumn)) false)
-unfolding markedCount
-marked-suc [] i h = absurd (omega arith)
-marked-suc (c ∷ cs) zero h = omega arith
-marked-suc (c ∷ cs) (suc i) h = omega (arith, marked-suc cs i (omega arith))
-
--- a chapter, or not
-chapters-suc : (cs : List Column) (i : ℕ) → i < length cs → chapterCount (take (suc i) cs) ≡ chapterCount (take i cs) + one (isChapter (getD cs i noColumn))
-unfolding chapterCount
-chapters-suc [] i h = absurd (omega arith)
-chapters-suc (c ∷ cs) zero h = omega arith
-chapters-suc (c ∷ cs) (suc i) h = omega (arith, chapters-suc cs i (omega arith))
 
 pub one-most : (b : Bool) → one b ≤ 1
 one-most true = omega arith
@@ -187,24 +171,20 @@ pub updates-end : {slots words₀ words : List ℕ} {i : ℕ} → Updating slots
 updates-end u h = record { says = λ j l. u .says j (omega (arith, l, h)); long = u .long }
 
 -- The steps and the counts of the first i columns of a schema, with the words from `next` on.
-pub record Growing (cs : List Column) (next : ℕ) (words₀ words : List ℕ) (steps gap bit marked chapters i : ℕ) : Type 0 where
+pub record Growing (cs : List Column) (next : ℕ) (words₀ words : List ℕ) (steps gap bit i : ℕ) : Type 0 where
   pub below : i ≤ length cs
   pub long : length words ≡ length words₀
   pub says : SayAll words next (stepsFrom isStop 0 (take i (marks 0 cs)))
   pub count : steps ≡ length (stepsFrom isStop 0 (take i (marks 0 cs)))
   pub tail : gap ≡ tailFrom isStop 0 (take i (marks 0 cs))
   pub bits : bit ≡ bitOf cs i
-  pub mark : marked ≡ markedCount (take i cs)
-  pub chapter : chapters ≡ chapterCount (take i cs)
   pub others : (j : ℕ) → (j < next) ⊎ (next + steps ≤ j) → getD words j 0 ≡ getD words₀ j 0
   pub few-steps : steps ≤ i
   pub few-gap : gap ≤ 16 * i
   pub few-bits : bit ≤ i
-  pub few-marked : marked ≤ i
-  pub few-chapters : chapters ≤ i
 
-pub grow-start : (cs : List Column) (next : ℕ) (words : List ℕ) → Growing cs next words words 0 0 0 0 0 0
-unfolding stepsFrom tailFrom markedCount chapterCount
+pub grow-start : (cs : List Column) (next : ℕ) (words : List ℕ) → Growing cs next words words 0 0 0 0
+unfolding stepsFrom tailFrom
 grow-start cs next words =
     record {
       below = omega arith;
@@ -213,20 +193,16 @@ grow-start cs next words =
       count = refl;
       tail = refl;
       bits = sym (bit-zero cs);
-      mark = refl;
-      chapter = refl;
       others = λ j h. refl;
       few-steps = omega arith;
       few-gap = omega arith;
       few-bits = omega arith;
-      few-marked = omega arith;
-      few-chapters = omega arith;
     }
 
 -- Column i, whose slot is this one.
 module _
-    {cs : List Column} {next : ℕ} {words₀ words : List ℕ} {steps gap bit marked chapters i : ℕ}
-    (grown : Growing cs next words₀ words steps gap bit marked chapters i) (h : i < length cs) (c : Column) (e : c ≡ getD cs i noColumn)
+    {cs : List Column} {next : ℕ} {words₀ words : List ℕ} {steps gap bit i : ℕ}
+    (grown : Growing cs next words₀ words steps gap bit i) (h : i < length cs) (c : Column) (e : c ≡ getD cs i noColumn)
   where
     -- the column with its bit
     mark-here : getD (marks 0 cs) i noMark ≡ mark c bit
@@ -260,21 +236,15 @@ module _
         ∙ tail-suc isStop 0 (marks 0 cs) i inside-marks
         ∙ rw (mark-here, s, ← grown .tail) refl)
 
-    module _ {n m k : ℕ} (a-bit : n ≡ one (isNullable c)) (a-mark : m ≡ one (pick (isChapter c) (isNullable c) false)) (a-chapter : k ≡ one (isChapter c)) where
+    module _ {n : ℕ} (a-bit : n ≡ one (isNullable c)) where
       bits-on : bit + n ≡ bitOf cs (i + 1)
       bits-on = rw (a-bit, e, grown .bits) (sym (bit-next cs i h))
-
-      marked-on : marked + m ≡ markedCount (take (i + 1) cs)
-      marked-on = rw (a-mark, e, grown .mark) (sym (ap (λ (j : ℕ). markedCount (take j cs)) (add-one i) ∙ marked-suc cs i h))
-
-      chapters-on : chapters + k ≡ chapterCount (take (i + 1) cs)
-      chapters-on = rw (a-chapter, e, grown .chapter) (sym (ap (λ (j : ℕ). chapterCount (take j cs)) (add-one i) ∙ chapters-suc cs i h))
 
       -- a stop, and its word
       pub grow-stop :
           isStop c ≡ true → (slot : ℕ) {w : ℕ} → c ≡ asColumn (entryIn slot) → w ≡ wordOf slot gap bit (width (asColumn (entryIn slot))) →
           length cs ≤ 64 → next + steps < length words →
-          Growing cs next words₀ (set words (next + steps) w) (steps + 1) 0 (bit + n) (marked + m) (chapters + k) (i + 1)
+          Growing cs next words₀ (set words (next + steps) w) (steps + 1) 0 (bit + n) (i + 1)
       grow-stop s slot {w} a b few room =
           let old : List Step = stepsFrom isStop 0 (take i (marks 0 cs)) in
           let t : Step = stepTo gap (mark c bit) in
@@ -288,14 +258,10 @@ module _
             count = rw (step-more s) (omega (arith, grown .count, length-append old (t ∷ [])));
             tail = tail-none s;
             bits = bits-on;
-            mark = marked-on;
-            chapter = chapters-on;
             others = λ j l. getD-set-other words (next + steps) j w 0 (λ z. away j l z) ∙ grown .others j (wider j l);
             few-steps = omega (arith, grown .few-steps);
             few-gap = omega arith;
             few-bits = omega (arith, grown .few-bits, a-bit, one-most (isNullable c));
-            few-marked = omega (arith, grown .few-marked, a-mark, one-most (pick (isChapter c) (isNullable c) false));
-            few-chapters = omega (arith, grown .few-chapters, a-chapter, one-most (isChapter c));
           }
         where
           away : (j : ℕ) → (j < next) ⊎ (next + (steps + 1) ≤ j) → j ≡ next + steps → ⊥
@@ -309,7 +275,7 @@ module _
       -- any other column
       pub grow-plain :
           isStop c ≡ false → {w : ℕ} → w ≡ width c →
-          Growing cs next words₀ words steps (gap + w) (bit + n) (marked + m) (chapters + k) (i + 1)
+          Growing cs next words₀ words steps (gap + w) (bit + n) (i + 1)
       grow-plain s {w} b =
           record {
             below = omega arith;
@@ -318,62 +284,49 @@ module _
             count = rw (step-none s) (grown .count);
             tail = rw b (tail-more s);
             bits = bits-on;
-            mark = marked-on;
-            chapter = chapters-on;
             others = grown .others;
             few-steps = omega (arith, grown .few-steps);
             few-gap = omega (arith, grown .few-gap, b, width-few c);
             few-bits = omega (arith, grown .few-bits, a-bit, one-most (isNullable c));
-            few-marked = omega (arith, grown .few-marked, a-mark, one-most (pick (isChapter c) (isNullable c) false));
-            few-chapters = omega (arith, grown .few-chapters, a-chapter, one-most (isChapter c));
           }
 
 -- All columns: the form of the schema.
 module _
-    {cs : List Column} {next : ℕ} {words₀ words : List ℕ} {steps gap bit marked chapters i : ℕ}
-    (grown : Growing cs next words₀ words steps gap bit marked chapters i) (few : length cs ≤ 64) (room : next + length cs ≤ 256)
+    {cs : List Column} {next : ℕ} {words₀ words : List ℕ} {steps gap bit i : ℕ}
+    (grown : Growing cs next words₀ words steps gap bit i) (few : length cs ≤ 64) (room : next + length cs ≤ 256)
     {bytes : ℕ} (b : bytes ≡ mapBytes bit)
   where
     -- its parts have their room
-    pub grow-fits : (next < 65536) × (steps < 256) × (bytes < 256) × (gap < 65536) × (marked < 256) × (chapters < 256)
+    pub grow-fits : (next < 65536) × (steps < 256) × (bytes < 256) × (gap < 65536)
     grow-fits =
         let l : i ≤ 64 = omega (arith, grown .below) in (
           omega arith,
           omega (arith, grown .few-steps),
           omega (arith, b, map-few bit, grown .few-bits),
           omega (arith, grown .few-gap),
-          omega (arith, grown .few-marked),
-          omega (arith, grown .few-chapters),
         )
 
-    pub grow-end : length cs ≤ i → {form : ℕ} → form ≡ formOf next steps bytes gap marked chapters → Added cs next words₀ words form
+    pub grow-end : length cs ≤ i → {form : ℕ} → form ≡ formOf next steps bytes gap → Added cs next words₀ words form
     unfolding presenceBytes
     grow-end l {form} f =
         let z : i ≡ length cs = omega (arith, grown .below, l) in
         let whole : take i (marks 0 cs) ≡ marks 0 cs = take-all i (marks 0 cs) (omega (arith, length-marks 0 cs, l)) in
-        let all : take i cs ≡ cs = take-all i cs l in
         let s : stepsFrom isStop 0 (take i (marks 0 cs)) ≡ rowSteps cs = ap (stepsFrom isStop 0) whole in
         let n : steps ≡ length (rowSteps cs) = grown .count ∙ ap length s in
-        let (p, q, r, t, k, _) = grow-fits in
-        let first : firstIn form ≡ next = ap (λ (x : ℕ). firstIn x) f ∙ form-first next steps bytes gap marked chapters p q r t k in
+        let (p, q, r, t) = grow-fits in
+        let first : firstIn form ≡ next = ap (λ (x : ℕ). firstIn x) f ∙ form-first next steps bytes gap p q r t in
         record {
           formed =
               record {
                 steps = rw (first, ← s) (grown .says);
                 inside = omega (arith, first, n, grown .few-steps);
-                count = ap (λ (x : ℕ). stepsIn x) f ∙ form-steps next steps bytes gap marked chapters p q r t k ∙ n;
+                count = ap (λ (x : ℕ). stepsIn x) f ∙ form-steps next steps bytes gap p q r t ∙ n;
                 map =
-                    ap (λ (x : ℕ). mapIn x) f ∙ form-map next steps bytes gap marked chapters p q r t k
+                    ap (λ (x : ℕ). mapIn x) f ∙ form-map next steps bytes gap p q r t
                     ∙ b ∙ ap mapBytes (grown .bits ∙ ap (bitOf cs) z ∙ bit-all cs);
                 tail =
-                    ap (λ (x : ℕ). tailIn x) f ∙ form-tail next steps bytes gap marked chapters p q r t k
+                    ap (λ (x : ℕ). tailIn x) f ∙ form-tail next steps bytes gap p q r t
                     ∙ grown .tail ∙ ap (tailFrom isStop 0) whole;
-                marked =
-                    ap (λ (x : ℕ). markedIn x) f ∙ form-marked next steps bytes gap marked chapters p q r t k
-                    ∙ grown .mark ∙ ap markedCount all;
-                chapters =
-                    ap (λ (x : ℕ). chaptersIn x) f ∙ form-chapters next steps bytes gap marked chapters p q r t k
-                    ∙ grown .chapter ∙ ap chapterCount all;
               };
           first = first;
           long = grown .long;
@@ -427,8 +380,6 @@ formed-same words other form cs same f =
       count = f .count;
       map = f .map;
       tail = f .tail;
-      marked = f .marked;
-      chapters = f .chapters;
     }
 
 -- The forms of the first k schemas, with their words before `next`.

@@ -2,7 +2,7 @@
 -- Assumes nothing.
 use Prim.Native.Nat.{ℕ, zero, suc, _+_, _≤_, _<_}
 use mathlib.Core.Path.{_≡_, refl, sym, ap, _∙_}
-use mathlib.Core.List.{List}
+use mathlib.Core.List.{List, []}
 use mathlib.Core.Bool.{Bool, true, false}
 use mathlib.Core.Option.{Option, none, some}
 use native.Mathlib.Omega.{arith}
@@ -175,12 +175,12 @@ module _ (schemas : List Schema) (s : Bytes) (before : Before) (at : ℕ) where
     unfolding tokenOf
     head-change e = by-token (ap tokenOf e)
 
-    pub head-delete : getD s at 0 ≡ 0x8C → headAt schemas s before at ≡ headBy schemas s before at deleteToken
-    unfolding tokenOf
+    pub head-delete : getD s at 0 ≡ 0x8C → headAt schemas s before at ≡ headBy [] s before at deleteToken
+    unfolding tokenOf headBy
     head-delete e = by-token (ap tokenOf e)
 
-    pub head-done : getD s at 0 ≡ 0x0F → headAt schemas s before at ≡ headBy schemas s before at doneToken
-    unfolding tokenOf
+    pub head-done : getD s at 0 ≡ 0x0F → headAt schemas s before at ≡ headBy [] s other at doneToken
+    unfolding tokenOf headBy
     head-done e = by-token (ap tokenOf e)
 
     pub head-unknown :

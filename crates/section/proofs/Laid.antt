@@ -1,6 +1,6 @@
 -- Rows laid into a table one after the other.
 -- Assumes nothing.
-use Prim.Native.Nat.{ℕ, zero, suc, _+_, _*_, _-_, _<_, _≤_}
+use Prim.Native.Nat.{ℕ, suc, _+_, _*_, _-_, _≤_}
 use mathlib.Core.Path.{_≡_, refl, sym, ap, _∙_}
 use mathlib.Core.List.{List, [], _∷_, _++_, append-assoc, append-nil}
 use mathlib.Core.Bool.{Bool, true, false}
@@ -9,7 +9,6 @@ use lib.ListN.{length, take, drop, set, length-append, take-append-drop}
 use lib.Seq.{take-at, drop-at, length-take-le, paste, paste-zero, paste-suc}
 use lib.Dec.{leb}
 use borrow.Author.Tests.{leb-true, leb-false}
-use Rattle.wire.specs.Read.{Bytes}
 use Rattle.wire.specs.Output.{put}
 use Rattle.wire.proofs.Laws.{take-put, put-fits, put-not, put-paste, length-put, put-put}
 use Rattle.grammar.specs.Grammar.{Row}

@@ -17,9 +17,7 @@ use Rattle.wire.proofs.Laws.{int-fits}
 use Rattle.wire.proofs.Pieces.{bind-same, bind-unit, bind-bind}
 use Rattle.column.specs.declared.column.Column.{Column}
 use Rattle.column.specs.declared.field.Field.{Field}
-use Rattle.column.specs.declared.types.Kind.{Kind}
-use Rattle.column.specs.declared.types.Kind.the-variants.{Fixed, Variable, Wide, Chapter, Unknown}
-use Rattle.column.specs.Columns.{kind, width, isVariable, isChapter, prefixSize, prefixBytes, lengthErrorOf, lengthError, isStop}
+use Rattle.column.specs.Columns.{width, isVariable, isChapter, prefixSize, prefixBytes, lengthError, isStop}
 use Rattle.column.specs.Fields.{field, bytesAt, variableAt, fieldAt}
 use Rattle.column.proofs.Laws.{prefix-variable, prefix-plain, bytes-short, bytes-fit, variable-short, variable-long, variable-bytes, field-variable, field-fixed, field-past, length-none}
 use Rattle.column.proofs.Stops.{chapter-bare, no-stop}

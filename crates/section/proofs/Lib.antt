@@ -1,5 +1,8 @@
 pub mod Slots
+pub mod MapBits
+pub mod MaskLaws
 pub mod Quiet
+pub mod MapRules
 pub mod HeadLaws
 pub mod Words
 pub mod Growth
@@ -9,6 +12,9 @@ pub mod Spans
 pub mod Turns
 pub mod Laid
 pub mod Scan
+pub mod Noting
+pub mod Scanning
+pub mod Filling
 pub mod OnWay
 pub mod WayLaws
 pub mod Listing

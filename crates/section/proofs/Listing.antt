@@ -1,29 +1,27 @@
 -- The rows of a section in the caller's table: what two passes over it come to, and the checks in front of them.
 -- Assumes nothing.
-use Prim.Native.Nat.{ℕ, _+_, _*_, _/_, _<_, _≤_}
+use Prim.Native.Nat.{ℕ, _*_, _/_, _<_, _≤_}
 use mathlib.Core.Path.{_≡_, refl, sym, ap, _∙_}
 use mathlib.Core.List.{List}
-use mathlib.Core.Bool.{Bool, true, false}
 use native.Mathlib.Omega.{arith}
 use lib.ListN.{length, take}
-use lib.Dec.{leb}
 use borrow.Author.Tests.{le-leb, lt-leb}
 use Rattle.wire.specs.declared.error.Error.{Error}
 use Rattle.wire.specs.declared.error.Input.{Input}
 use Rattle.wire.specs.declared.error.Input.the-variants as input
 use Rattle.wire.specs.declared.error.ErrorKind.the-variants as error
 use Rattle.wire.specs.Errors.{codeOf}
-use Rattle.wire.specs.Read.{Bytes, Read, ok, bad, _>>=_, check, about, limit, sized, refused}
+use Rattle.wire.specs.Read.{Bytes, Read, ok, bad, check, about, limit, refused}
 use Rattle.wire.proofs.Laws.{sized-over, sized-within, length-put}
 use Rattle.wire.specs.Output.{put}
-use Rattle.wire.proofs.Pieces.{bad-ok, ok-ok}
+use Rattle.wire.proofs.Pieces.{bad-ok}
 use Rattle.schema.specs.Schemas.{Schema, readSchemas}
 use Rattle.section.specs.declared.read.RowsRead.{RowsRead}
 use Rattle.section.specs.declared.read.RowsRead.the-variants as read
 use Rattle.grammar.specs.Grammar.{Row}
 use Rattle.grammar.specs.Reader.{section}
-use Rattle.section.specs.Table.{roomFor, tableNumbers, rowsFitting, rowsRead, tableAfter, rowCount, toldRows, Listed}
-use Rattle.section.specs.Scan.{laidFrom, Scanned}
+use Rattle.section.specs.Table.{tableNumbers, rowsFitting, rowsRead, tableAfter, rowCount, toldRows, Listed}
+use Rattle.section.specs.Scan.{laidFrom}
 use Rattle.section.proofs.Laid.{laid-all, held-laid}
 
 -- a number of rows is told of rows
@@ -81,31 +79,30 @@ module _ (S : List Schema) (s : Bytes) (table : List ℕ) where
         by : rowsFitting S s (length table) ≡ bad 16 (length rs) input.Table
         by = rw (q, lt-leb (length rs) (length table / 4) h) refl
 
-    pub fitting-rows : (exit : List ℕ) (r : RowsRead) → length rs ≤ length table / 4 → Scanned (section S s) table exit r →
+    pub fitting-rows : (exit : List ℕ) (r : RowsRead) → length rs ≤ length table / 4 → toldRows r ≡ rowCount (section S s) → exit ≡ laidFrom 0 rs table →
         Listed (rowsFitting S s (length table)) table exit r
     unfolding tableAfter rowsFitting about check
-    fitting-rows exit r h c =
+    fitting-rows exit r h c l =
         record {
-          answers = c .answers ∙ ap rowCount q ∙ ap rowCount (sym by);
-          leaves = c .lays rs q ∙ laid-all rs table (omega arith) ∙ ap (λ (x : Read (List Row)). tableAfter x table) (sym by);
+          answers = c ∙ ap rowCount q ∙ ap rowCount (sym by);
+          leaves = l ∙ laid-all rs table (omega arith) ∙ ap (λ (x : Read (List Row)). tableAfter x table) (sym by);
         }
       where
         by : rowsFitting S s (length table) ≡ ok rs
         by = rw (q, le-leb (length rs) (length table / 4) h) refl
+
+    -- so many rows
+    pub fitting-count : (exit : List ℕ) (n : ℕ) → n ≡ length rs → length rs ≤ length table / 4 → exit ≡ laidFrom 0 rs table →
+        Listed (rowsFitting S s (length table)) table exit (read.Rows n)
+    fitting-count exit n z h l = fitting-rows exit (read.Rows n) h (ap (λ (m : ℕ). ok m) z ∙ ap rowCount (sym q)) l
 
     -- the same of rows that were held, and copied into the table
     pub fitting-held :
         (held exit : List ℕ) (n : ℕ) → n ≡ length rs → 4 * n ≤ length held → length rs ≤ length table / 4 →
         exit ≡ put table 0 (take (4 * n) (laidFrom 0 rs held)) → Listed (rowsFitting S s (length table)) table exit (read.Rows n)
     fitting-held held exit n z k h e =
-        fitting-rows exit (read.Rows n) h
-        (record {
-          answers = ap (λ (m : ℕ). ok m) z ∙ ap rowCount (sym q);
-          lays =
-              λ rows p.
-              e ∙ ap (λ (m : ℕ). put table 0 (take (4 * m) (laidFrom 0 rs held))) z ∙ held-laid rs held table (omega arith) (omega arith)
-              ∙ ap (λ (x : List Row). laidFrom 0 x table) (ok-ok (sym q ∙ p));
-        })
+        fitting-count exit n z h
+        (e ∙ ap (λ (m : ℕ). put table 0 (take (4 * m) (laidFrom 0 rs held))) z ∙ held-laid rs held table (omega arith) (omega arith))
 
 -- the checks in front of a section
 module _ (file s : Bytes) (numbers : ℕ) where

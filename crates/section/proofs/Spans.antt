@@ -1,83 +1,66 @@
 -- Laws of one step as code takes it: whether the row has a field, the length of a field, its bytes.
 -- Assumes nothing.
-use Prim.Native.Nat.{ℕ, zero, suc, _+_, _*_, _-_, _/_, _^_, _≤_, _<_}
-use mathlib.Core.Bool.{Bool, true, false, not, true≢false}
+use Prim.Native.Nat.{ℕ, zero, suc, _+_, _*_, _-_, _/_, _%_, _≤_, _<_}
+use mathlib.Core.Bool.{Bool, true, false, true≢false}
 use mathlib.Core.Logic.{_⊎_, inl, inr}
 use mathlib.Core.Path.{_≡_, refl, sym, ap, _∙_}
 use native.Mathlib.Omega.{arith}
-use lib.ListN.{length, getD, take, drop}
+use lib.ListN.{length, getD}
 use lib.Dec.{ltb, leb, eqb}
-use borrow.Author.Tests.{leb-true, le-leb}
+use borrow.Author.Tests.{leb-true}
 use Rattle.wire.specs.declared.error.ErrorKind.{ErrorKind}
 use Rattle.wire.specs.Errors.{codeOf}
-use Rattle.wire.specs.Bits.{bitAt, bitSet}
-use Rattle.wire.specs.Read.{Bytes, AreBytes, pick}
+use Rattle.wire.specs.Read.{Bytes, pick}
 use Rattle.wire.specs.Integers.{intAt}
-use Rattle.wire.proofs.Laws.{int-one, int-four, int-fits, bit-past}
-use Rattle.wire.proofs.Pieces.{ok-ok, int-small}
+use Rattle.wire.proofs.Laws.{int-one, int-four, int-fits}
+use Rattle.wire.proofs.Pieces.{ok-ok}
 use Rattle.column.specs.declared.column.Column.{Column}
 use Rattle.column.specs.declared.column.LengthCheck.{LengthCheck}
 use Rattle.column.specs.declared.column.LengthCheck.the-variants as check
 use Rattle.column.specs.declared.types.Kind.{Kind}
 use Rattle.column.specs.declared.types.Kind.the-variants.{Fixed, Variable, Wide, Chapter, Unknown}
 use Rattle.column.specs.Types.{variableKind}
-use Rattle.column.specs.Columns.{kind, width, isVariable, prefixSize, lengthErrorOf, lengthError, toldLength}
+use Rattle.column.specs.Columns.{kind, width, isNullable, isVariable, prefixSize, lengthErrorOf, lengthError, toldLength}
 use Rattle.column.proofs.Laws.{code-positive, length-none}
-use Rattle.row.specs.Presence.{one, mark, present}
-use Rattle.row.specs.Updates.{carried}
-use Rattle.row.proofs.Arrays.{rest}
+use Rattle.row.specs.Presence.{one}
 use Rattle.section.specs.declared.steps.Span.the-variants as span
 use Rattle.section.specs.Steps.{spanAt, spanError}
-use Rattle.section.specs.Shapes.{columnOf, bitOfWord, hasWord}
+use Rattle.section.specs.Shapes.{columnOf}
+use Rattle.section.specs.Maps.{bitIn, hasWord}
 use Rattle.section.specs.Spans.{SpanIs, PrefixThere}
 use Rattle.section.proofs.Leap.{error-fixed, span-fixed, error-short, span-short, error-whole, span-whole}
 
 -- Whether the row has a field.
 
-one-few : (b : Bool) → one b ≤ 1
-one-few true = omega arith
-one-few false = omega arith
+-- what a bit is missed by is no more than 1
+pub bit-times : (t : Bool) (x : ℕ) {n : ℕ} → n ≡ one t → n * (1 - x) ≤ 1
+bit-times true x e = rw e (omega arith)
+bit-times false x e = rw e (omega arith)
 
--- a bit past the end
-pub bit-none : (map : Bytes) (i : ℕ) → length map ≤ i / 8 → (0 ≡ one (bitSet map i)) × (0 ≤ 1)
-bit-none map i h = (sym (ap one (bit-past map i h)), omega arith)
-
--- a bit as a number
-pub bit-number : (map : Bytes) (i b : ℕ) → b ≡ bitAt map i → b < 2 → (b ≡ one (bitSet map i)) × (b ≤ 1)
-unfolding bitSet
-bit-number map i b e h = (e ∙ go (bitAt map i) (rw e at h), omega arith)
-  where
-    go : (x : ℕ) → x < 2 → x ≡ one (eqb x 1)
-    go zero l = refl
-    go (suc zero) l = refl
-    go (suc (suc n)) l = absurd (omega arith)
-
--- the part of an input from a position on, as a slice is cut
-abbrev from : Bytes → ℕ → Bytes
-from s at = take (length s - at) (drop at s)
-
-module _ (s : Bytes) (map force word number : ℕ) {update : Bool} where
-  pub word-carried :
-      {u f : ℕ} → update ≡ true → u ≡ one (bitSet (from s map) number) → f ≡ one (bitSet (from s force) number) →
-      (u * (1 - f) ≡ one (hasWord update s map force word number)) × (u * (1 - f) ≤ 1)
-  unfolding carried
-  word-carried {u} {f} t x y =
-      let x′ : u ≡ one (bitSet (drop map s) number) = x ∙ ap (λ (l : Bytes). one (bitSet l number)) (rest s map) in
-      let y′ : f ≡ one (bitSet (drop force s) number) = y ∙ ap (λ (l : Bytes). one (bitSet l number)) (rest s force) in
-      rw (t, x′, y′) (go (bitSet (drop map s) number) (bitSet (drop force s) number))
+module _ (bits word number : ℕ) {update : Bool} {b : ℕ} (few : b ≤ 1) where
+  -- a bit of update data
+  pub word-carried : update ≡ true → b ≡ bitIn bits number → (b ≡ one (hasWord update bits word number)) × (b ≤ 1)
+  word-carried u e = (rw (u, ← e) (go b few), few)
     where
-      go : (a b : Bool) → (one a * (1 - one b) ≡ one (pick a (not b) false)) × (one a * (1 - one b) ≤ 1)
-      go true true = (refl, omega arith)
-      go true false = (refl, omega arith)
-      go false true = (refl, omega arith)
-      go false false = (refl, omega arith)
+      go : (x : ℕ) → x ≤ 1 → x ≡ one (eqb x 1)
+      go zero l = refl
+      go (suc zero) l = refl
+      go (suc (suc n)) l = absurd (omega arith)
 
+  -- the bit of a nullable column in a presence map
   pub word-present :
-      {b : Bool} {c : Column} {r : ℕ} → c ≡ columnOf word → r ≡ one b → update ≡ false → b ≡ present (from s map) (mark c (bitOfWord word)) →
-      (r ≡ one (hasWord update s map force word number)) × (r ≤ 1)
-  word-present {b} e h u k =
-      let x : b ≡ hasWord update s map force word number = rw (u, ← rest s map, ← e) k in
-      (h ∙ ap one x, rw h (one-few b))
+      {t : Bool} {c : Column} {n : ℕ} → update ≡ false → c ≡ columnOf word → t ≡ isNullable c → n ≡ one t →
+      b ≡ bitIn bits (word / 281474976710656 % 64) →
+      (1 - n * (1 - b) ≡ one (hasWord update bits word number)) × (1 - n * (1 - b) ≤ 1)
+  word-present {t} u e f g h =
+      let z : word / 281474976710656 % 256 % 64 ≡ word / 281474976710656 % 64 = omega arith in
+      (rw (u, z, ← h, ← e, ← f, g) (go t b few), omega arith)
+    where
+      go : (t : Bool) (x : ℕ) → x ≤ 1 → 1 - one t * (1 - x) ≡ one (pick t (eqb x 1) true)
+      go true zero l = refl
+      go true (suc zero) l = refl
+      go true (suc (suc n)) l = absurd (omega arith)
+      go false x l = omega arith
 
 -- The length of a field.
 
@@ -107,17 +90,6 @@ module _ (s : Bytes) (at size : ℕ) (t : PrefixThere s at size) where
         {v w x y : ℕ} → v ≡ getD s at 0 → w ≡ getD s (at + 1) 0 → x ≡ getD s (at + 2) 0 → y ≡ getD s (at + 3) 0 →
         v + 256 * (w + 256 * (x + 256 * y)) ≡ intAt s at size
     length-word {v} {w} {x} {y} e f g h = rw four (ok-ok (int-four s at v w x y all-there e f g h ∙ int-fits s at 4 all-there))
-
--- a length of four bytes at most
-pub prefix-small : (s : Bytes) (at size : ℕ) → AreBytes s → PrefixThere s at size → intAt s at size < 4294967296
-prefix-small s at size o t = go (t .sizes)
-  where
-    bound : (k : ℕ) → at + k ≤ length s → intAt s at k < 256 ^ k
-    bound k l = int-small s at k (intAt s at k) o (int-fits s at k l)
-
-    go : (size ≡ 1) ⊎ (size ≡ 4) → intAt s at size < 4294967296
-    go (inl e) = rw e (omega (arith, bound 1 (omega (arith, t .there))))
-    go (inr e) = rw e (bound 4 (omega (arith, t .there)))
 
 -- The bytes of a field.
 
@@ -201,33 +173,33 @@ module _ (c : Column) (s : Bytes) (at : ℕ) where
       pub prefix-there : PrefixThere s at n
       prefix-there = record { sizes = prefix-sizes h; there = l }
 
-      module _ (r : LengthCheck) {m has : ℕ} (e : m ≡ intAt s at n) (b : has ≤ 1) (t : toldLength r ≡ lengthError c (m * has)) where
+      module _ (r : LengthCheck) {m k has : ℕ} (e : m ≡ intAt s at n) (y : k ≡ m * has) (b : has ≤ 1) (t : toldLength r ≡ lengthError c k) where
         -- of a field that is there
         told : has ≡ 1 → spanError c s at ≡ toldLength r
         told o =
             let i : at + prefixSize c ≤ length s = omega arith in
-            let z : m ≡ m * has = rw o (omega arith) in
+            let z : m ≡ k = sym (y ∙ rw o (omega arith)) in
             error-whole c s at v i ∙ ap (λ (k : ℕ). lengthError c (intAt s at k)) (sym h) ∙ ap (lengthError c) (sym e ∙ z) ∙ sym t
 
-        pub span-refused : (k : ErrorKind) → r ≡ check.Refused k → SpanIs c s at has (span.Refused k)
-        span-refused k g = (there, told there ∙ ap toldLength g)
+        pub span-refused : (d : ErrorKind) → r ≡ check.Refused d → SpanIs c s at has (span.Refused d)
+        span-refused d g = (there, told there ∙ ap toldLength g)
           where
-            go : {x : ℕ} → Bit x → toldLength r ≡ lengthError c (m * x) → x ≡ 1
+            go : {x : ℕ} → Bit x → k ≡ m * x → x ≡ 1
             go unset y =
-                let z : m * 0 ≡ 0 = omega arith in
-                let w : codeOf k ≡ 0 = sym (ap toldLength g) ∙ y ∙ ap (lengthError c) z ∙ length-none c in
-                absurd (omega (arith, code-positive k))
+                let z : k ≡ 0 = omega arith in
+                let w : codeOf d ≡ 0 = sym (ap toldLength g) ∙ t ∙ ap (lengthError c) z ∙ length-none c in
+                absurd (omega (arith, code-positive d))
             go set y = refl
 
             there : has ≡ 1
-            there = go (bit-of has b) t
+            there = go (bit-of has b) y
 
         module _ (g : r ≡ check.Allowed) (x : c .maximum < 65536) where
-          pub length-small : m * has ≤ 131070
-          length-small = omega (arith, length-most c (m * has) v (sym t ∙ ap toldLength g))
+          pub length-small : k ≤ 131070
+          length-small = omega (arith, length-most c k v (sym t ∙ ap toldLength g))
 
-          pub span-allowed : SpanIs c s at has (span.Bytes (n * has + m * has))
-          span-allowed = ((λ o. told o ∙ ap toldLength g), go (bit-of has b), omega (arith, length-small, size-small b))
+          pub span-allowed : SpanIs c s at has (span.Bytes (n * has + k))
+          span-allowed = ((λ o. told o ∙ ap toldLength g), rw y (go (bit-of has b)), omega (arith, length-small, size-small b))
             where
               i : at + prefixSize c ≤ length s
               i = omega arith

@@ -73,13 +73,17 @@ pub before-pending : (slots : List ℕ) (child origin : ℕ) → beforeOf (pendi
 before-pending slots zero origin = refl
 before-pending slots (suc k) origin = refl
 
+-- the token of the element at `at`
+abbrev pub TokenIs : Bytes → ℕ → Token → Type 0
+TokenIs s at t = tokenOf (getD s at 0) ≡ t
+
 -- What a head tells.
 pub data HeadTold (S : List Schema) (s : Bytes) (before : Before) (at : ℕ) : HeadAt → Type 0 where
-  told-done : HeadTold S s before at doneHead
-  told-delete : {id : ℕ} → before ≡ after id → id ≡ idAt s at → at + 5 ≤ length s → HeadTold S s before at (deleteHead id)
-  told-parent : at + 1 ≤ length s → HeadTold S s before at (dataHead 1 0 0 (at + 1))
-  told-child : {k id start : ℕ} → childNumber S id ≡ some k → id ≡ idAt s at → start ≡ at + 5 → start ≤ length s → HeadTold S s before at (dataHead 2 k id start)
-  told-change : {k id start : ℕ} → before ≡ after id → childNumber S id ≡ some k → id ≡ idAt s at → start ≡ at + 5 → start ≤ length s → HeadTold S s before at (dataHead 3 k id start)
+  told-done : TokenIs s at doneToken → at + 1 ≡ length s → HeadTold S s before at doneHead
+  told-delete : {id : ℕ} → TokenIs s at deleteToken → before ≡ after id → id ≡ idAt s at → at + 5 ≤ length s → HeadTold S s before at (deleteHead id)
+  told-parent : TokenIs s at parentToken → at + 1 ≤ length s → HeadTold S s before at (dataHead 1 0 0 (at + 1))
+  told-child : {k id start : ℕ} → TokenIs s at childToken → childNumber S id ≡ some k → id ≡ idAt s at → start ≡ at + 5 → start ≤ length s → HeadTold S s before at (dataHead 2 k id start)
+  told-change : {k id start : ℕ} → TokenIs s at changeToken → before ≡ after id → childNumber S id ≡ some k → id ≡ idAt s at → start ≡ at + 5 → start ≤ length s → HeadTold S s before at (dataHead 3 k id start)
 
 whole-inside : (s : Bytes) (a n b : ℕ) → whole s a n ≡ ok b → (b ≡ a + n) × (a + n ≤ length s)
 unfolding whole
@@ -100,29 +104,29 @@ as-told : {S : List Schema} {s : Bytes} {before : Before} {at : ℕ} {g h : Head
 as-told t e = rw (← e) t
 
 module _ (S : List Schema) (s : Bytes) (before : Before) (at : ℕ) (here : at + 1 ≤ length s) where
-  told-by : (t : Token) (h : HeadAt) → headBy S s before at t ≡ ok h → HeadTold S s before at h
+  told-by : (t : Token) (h : HeadAt) → TokenIs s at t → headBy S s before at t ≡ ok h → HeadTold S s before at h
   unfolding headBy
-  told-by doneToken h e =
+  told-by doneToken h i e =
       let (u, c, r) = bind-ok (check (eqb (length s) (at + 1)) 15 (at + 1)) (λ _. ok doneHead) h e in
-      as-told told-done (ok-ok r)
-  told-by parentToken h e = as-told (told-parent here) (ok-ok e)
-  told-by childToken h e =
+      as-told (told-done i (sym (eqb-true _ _ (check-ok _ _ _ u c)))) (ok-ok r)
+  told-by parentToken h i e = as-told (told-parent i here) (ok-ok e)
+  told-by childToken h i e =
       let (b, w, r₁) = bind-ok _ _ h e in
       let (k, n, r₂) = bind-ok _ _ h r₁ in
       let (x, y) = whole-inside s (at + 1) 4 b w in
-      as-told (told-child (known-some at _ k n) refl (omega arith) (omega arith)) (ok-ok r₂)
-  told-by changeToken h e =
+      as-told (told-child i (known-some at _ k n) refl (omega arith) (omega arith)) (ok-ok r₂)
+  told-by changeToken h i e =
       let (b, w, r₁) = bind-ok _ _ h e in
       let (u, f, r₂) = bind-ok _ _ h r₁ in
       let (k, n, r₃) = bind-ok _ _ h r₂ in
       let (x, y) = whole-inside s (at + 1) 4 b w in
-      as-told (told-change (follows-after before (idAt s at) (check-ok _ _ _ u f)) (known-some at _ k n) refl (omega arith) (omega arith)) (ok-ok r₃)
-  told-by deleteToken h e =
+      as-told (told-change i (follows-after before (idAt s at) (check-ok _ _ _ u f)) (known-some at _ k n) refl (omega arith) (omega arith)) (ok-ok r₃)
+  told-by deleteToken h i e =
       let (b, w, r₁) = bind-ok _ _ h e in
       let (u, f, r₂) = bind-ok _ _ h r₁ in
       let (x, y) = whole-inside s (at + 1) 4 b w in
-      as-told (told-delete (follows-after before (idAt s at) (check-ok _ _ _ u f)) refl (omega arith)) (ok-ok r₂)
-  told-by unknownToken h e = absurd (bad-ok e)
+      as-told (told-delete i (follows-after before (idAt s at) (check-ok _ _ _ u f)) refl (omega arith)) (ok-ok r₂)
+  told-by unknownToken h i e = absurd (bad-ok e)
 
 -- an id is a number of four bytes
 pub id-small : (s : Bytes) (at : ℕ) → AreBytes s → at + 5 ≤ length s → idAt s at < 4294967296
@@ -137,4 +141,4 @@ unfolding headAt
 head-told S s before at h e =
     let (b, w, r) = bind-ok _ _ h e in
     let (x, y) = whole-inside s at 1 b w in
-    told-by S s before at y (tokenOf (getD s at 0)) h r
+    told-by S s before at y (tokenOf (getD s at 0)) h refl r

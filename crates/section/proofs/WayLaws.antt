@@ -1,26 +1,35 @@
 -- The way over a row's data: what a form and the words of a schema say of it, once the maps are checked.
 -- Assumes nothing.
-use Prim.Native.Nat.{ℕ, _+_, _<_, _≤_}
+use Prim.Native.Nat.{ℕ, _+_, _*_, _<_, _≤_}
 use mathlib.Core.Path.{_≡_, sym, ap, _∙_}
 use mathlib.Core.List.{List}
 use mathlib.Core.Bool.{true, false}
 use native.Mathlib.Omega.{arith}
+use lib.Dec.{eqb}
+use lib.Bits.{bitAnd, bitXor}
 use lib.ListN.{length, getD, drop}
+use borrow.Author.Tests.{eqb-true}
 use Rattle.wire.specs.declared.error.Error.{Error}
+use Rattle.wire.specs.declared.integer.IntRead.{IntRead}
+use Rattle.wire.specs.declared.integer.IntRead.the-variants as int
 use Rattle.wire.specs.Bits.{mapBytes}
-use Rattle.wire.specs.Read.{Bytes, ok, _>>=_, refused}
+use Rattle.wire.specs.Integers.{toldInt}
+use Rattle.wire.specs.Read.{Bytes, AreBytes, ok, refused}
 use Rattle.column.specs.declared.column.Column.{Column}
 use Rattle.column.specs.Columns.{width, isStop}
-use Rattle.row.specs.Presence.{noColumn, mark, marks, present}
+use Rattle.row.specs.Presence.{noColumn, mark, marks, present, chapterPresent, clear}
 use Rattle.row.specs.Rows.{opened}
-use Rattle.row.specs.Updates.{numbered, carried, updateBytes, updateOpened}
-use Rattle.row.proofs.Laws.{length-marks, end-closed}
-use Rattle.row.proofs.UpdateLaws.{carried-in, update-end-closed}
+use Rattle.row.specs.Updates.{numbered, updateBytes, updateOpened}
+use Rattle.row.proofs.Laws.{length-marks, map-few, end-closed}
+use Rattle.row.proofs.UpdateLaws.{update-end-closed}
 use Rattle.schema.specs.Schemas.{asColumn}
 use Rattle.schema.specs.Table.{schemaSlot, startIn, countIn, entryIn}
 use Rattle.section.specs.Steps.{noStep, stepTo, anyColumn, stepsFrom, leap}
-use Rattle.section.specs.Shapes.{columnOf, gapOf, bitOfWord, widthOfWord, firstIn, stepsIn, tailIn, Says, SaysColumn, updateWords, slotColumns, rowSteps, Sound, Shaped}
+use Rattle.section.specs.Shapes.{columnOf, gapOf, widthOfWord, firstIn, stepsIn, tailIn, Says, SaysColumn, updateWords, slotColumns, rowSteps, Sound, Shaped}
 use Rattle.section.specs.Ways.{dataEnd, dataSteps, Leads, Led}
+use Rattle.section.specs.Maps.{mapBits, hasWord, Masked, AllMasked, Keeps}
+use Rattle.section.specs.Data.{mapRules}
+use Rattle.section.proofs.MapRules.{presence-kept, maps-kept, has-present, has-carried}
 use Rattle.section.proofs.Slots.{length-slots, slot-at, slot-bytes}
 use Rattle.section.proofs.Leap.{original-ends, update-ends, opened-start, update-start, steps-few, update-steps, update-step}
 
@@ -41,48 +50,77 @@ module _ (slots words forms : List ℕ) (n k : ℕ) (s : Bytes) (start : ℕ) (s
   long : length cs ≡ countIn slot
   long = length-slots slots (startIn slot) (countIn slot)
 
-  pub row-refused : (e : Error) → opened cs s start ≡ refused e → dataEnd false cs s start ≡ refused e
-  row-refused e q = end-closed cs s start q
+  pub row-refused : (r : IntRead) (e : Error) → toldInt r ≡ opened cs s start → r ≡ int.Refused e → dataEnd false cs s start ≡ refused e
+  row-refused r e t g = end-closed cs s start (sym t ∙ ap toldInt g)
 
-  pub update-refused : (e : Error) → updateOpened cs s start ≡ refused e → dataEnd true cs s start ≡ refused e
-  update-refused e q = update-end-closed cs s start q
+  pub update-refused : (r : IntRead) (e : Error) → toldInt r ≡ updateOpened cs s start → r ≡ int.Refused e → dataEnd true cs s start ≡ refused e
+  update-refused r e t g = update-end-closed cs s start (sym t ∙ ap toldInt g)
+
+  few : length cs ≤ 64
+  few = omega (arith, long, sound .few k h)
+
+  -- a map of update data is short
+  pub map-short : mapBytes (countIn slot) ≤ 64
+  map-short = omega (arith, map-few (countIn slot), sound .few k h)
+
+  -- maps that the masks accept keep their rules
+  module _ (masks : List ℕ) (all : AllMasked slots masks n) (o : AreBytes s) where
+    pub row-kept :
+        {bits : ℕ} → bits ≡ mapBits s start → eqb (bitAnd bits (getD masks (4 * k) 0)) 0 ≡ true → clear (chapterPresent (drop start s)) 12 start (marks 0 cs) ≡ ok tt
+    row-kept {bits} e t =
+        let mask : ℕ = getD masks (4 * k) 0 in
+        presence-kept cs s o few start mask (all k h .present) (ap (λ (b : ℕ). bitAnd b mask) (sym e) ∙ eqb-true (bitAnd bits mask) 0 t)
+
+    pub update-kept :
+        Keeps (mapBits s start) (mapBits s (start + mapBytes (countIn slot))) (getD masks (4 * k + 1) 0) (getD masks (4 * k + 2) 0) (getD masks (4 * k + 3) 0) →
+        mapRules cs s start ≡ ok tt
+    update-kept e =
+        let m : Masked masks k cs = all k h in
+        maps-kept cs s o few start (getD masks (4 * k + 1) 0) (getD masks (4 * k + 2) 0) (getD masks (4 * k + 3) 0) (m .chapters) (m .unforced) (m .all)
+        (rw (slot-bytes slots (startIn slot) (countIn slot)) e)
 
   -- original row data that open
-  pub row-way : (fields : ℕ) → opened cs s start ≡ ok fields → Led words false cs s start fields (firstIn form) (stepsIn form) (tailIn form) start
-  row-way fields q =
+  pub row-way :
+      AreBytes s → (r : IntRead) (fields : ℕ) → toldInt r ≡ opened cs s start → r ≡ int.Int fields →
+      Led words false cs s start fields (firstIn form) (stepsIn form) (tailIn form) (mapBits s start)
+  row-way o r fields t g =
+      let q : opened cs s start ≡ ok fields = sym t ∙ ap toldInt g in
       let f = shaped .formed k h in
       let (e, i) = opened-start cs s start fields q in
-      let few : length (rowSteps cs) ≤ length (marks 0 cs) = steps-few isStop 0 (marks 0 cs) in
       let c : stepsIn form ≡ length (rowSteps cs) = f .count in
       record {
         ends = original-ends cs s start fields q ∙ ap (λ (t : ℕ). leap (present (drop start s)) s (rowSteps cs) t fields) (sym (f .tail));
         all = c;
-        few = omega (arith, length-marks 0 cs, long, sound .few k h);
+        few = omega (arith, steps-few isStop 0 (marks 0 cs), length-marks 0 cs, few);
         inside = omega (arith, f .inside);
-        leads = λ i l. by i (f .steps i (omega arith));
-        starts = omega arith;
-        forces = omega arith;
+        leads = λ i l. by i (omega arith) (f .steps i (omega arith));
         begins = i;
         forward = omega arith;
         small = omega arith;
       }
     where
-      by : (i : ℕ) → Says (getD words (firstIn form + i) 0) (getD (rowSteps cs) i noStep) →
-          Leads false cs s start start (getD words (firstIn form + i) 0) i (getD (rowSteps cs) i noStep)
-      by i y =
+      by :
+          (i : ℕ) → i < length (rowSteps cs) → Says (getD words (firstIn form + i) 0) (getD (rowSteps cs) i noStep) →
+          Leads false cs s start (mapBits s start) (getD words (firstIn form + i) 0) i (getD (rowSteps cs) i noStep)
+      by i l y =
           record {
             column = y .column;
             gap = y .gap;
             width = word-width _ _ (y .column) (y .width);
-            has = ap (λ (c : Column). present (drop start s) (mark c (bitOfWord (getD words (firstIn form + i) 0)))) (y .column) ∙ ap (λ (b : ℕ). present (drop start s) (mark (getD (rowSteps cs) i noStep .mark .column) b)) (y .bit);
+            has = has-present cs s start o few (getD words (firstIn form + i) 0) i l y;
           }
 
+  -- the bits of the columns that update data carry
+  abbrev carriedBits : ℕ
+  carriedBits = bitXor (mapBits s start) (bitAnd (mapBits s start) (mapBits s (start + mapBytes (countIn slot))))
+
   -- update data that open
-  pub update-way : (fields : ℕ) → updateOpened cs s start ≡ ok fields →
-      Led words true cs s start fields (256 + startIn slot) (countIn slot) 0 (start + mapBytes (countIn slot))
-  update-way fields q =
+  pub update-way :
+      AreBytes s → (r : IntRead) (fields : ℕ) → toldInt r ≡ updateOpened cs s start → r ≡ int.Int fields →
+      Led words true cs s start fields (256 + startIn slot) (countIn slot) 0 carriedBits
+  update-way o r fields t g =
+      let q : updateOpened cs s start ≡ ok fields = sym t ∙ ap toldInt g in
       let (e, i) = update-start cs s start fields q in
-      let b : updateBytes cs ≡ mapBytes (countIn slot) = slot-bytes slots (startIn slot) (countIn slot) in
       let m : length (stepsFrom anyColumn 0 (numbered 0 cs)) ≡ countIn slot = update-steps cs ∙ long in
       record {
         ends = update-ends cs s start fields q;
@@ -90,15 +128,13 @@ module _ (slots words forms : List ℕ) (n k : ℕ) (s : Bytes) (start : ℕ) (s
         few = sound .few k h;
         inside = omega (arith, sound .inside k h);
         leads = λ i l. by i l (shaped .updates (startIn slot + i) (omega (arith, sound .inside k h)));
-        starts = omega arith;
-        forces = omega arith;
         begins = i;
         forward = omega arith;
         small = omega arith;
       }
     where
       by : (i : ℕ) → i < countIn slot → SaysColumn (getD words (updateWords + (startIn slot + i)) 0) (asColumn (entryIn (getD slots (startIn slot + i) 0))) →
-          Leads true cs s start (start + mapBytes (countIn slot)) (getD words (256 + startIn slot + i) 0) i (getD (dataSteps true cs) i noStep)
+          Leads true cs s start carriedBits (getD words (256 + startIn slot + i) 0) i (getD (dataSteps true cs) i noStep)
       by i l y =
           let z : 256 + (startIn slot + i) ≡ 256 + startIn slot + i = omega arith in
           let t : getD (dataSteps true cs) i noStep ≡ stepTo 0 (mark (getD cs i noColumn) i) = update-step cs i (omega (arith, long)) in
@@ -113,6 +149,6 @@ module _ (slots words forms : List ℕ) (n k : ℕ) (s : Bytes) (start : ℕ) (s
             gap = ap gapOf (sym v) ∙ y .gap;
             width = word-width _ _ c (ap widthOfWord (sym v) ∙ y .width ∙ ap width at);
             has =
-                ap (λ (x : Column). carried (drop start s) (drop (start + mapBytes (countIn slot)) s) (mark x i)) c
-                ∙ sym (carried-in cs s start (mark (getD cs i noColumn) i) ∙ ap (λ (x : ℕ). carried (drop start s) (drop (start + x) s) (mark (getD cs i noColumn) i)) b);
+                ap (λ (n : ℕ). hasWord true (bitXor (mapBits s start) (bitAnd (mapBits s start) (mapBits s (start + n)))) w i) (sym b)
+                ∙ has-carried cs s start o w (getD cs i noColumn) i (omega (arith, sound .few k h));
           })

@@ -5,7 +5,7 @@ use mathlib.Core.Path.{_≡_, refl}
 use native.Mathlib.Omega.{arith}
 use Rattle.schema.specs.Schemas.{asColumn}
 use Rattle.schema.specs.Table.{codeIn, flagsIn, maximumIn, entryIn}
-use Rattle.section.specs.Shapes.{wordOf, columnOf, gapOf, bitOfWord, widthOfWord, formOf, firstIn, stepsIn, mapIn, tailIn, markedIn, chaptersIn}
+use Rattle.section.specs.Shapes.{wordOf, columnOf, gapOf, bitOfWord, widthOfWord, formOf, firstIn, stepsIn, mapIn, tailIn}
 
 -- of a word
 module _ (slot gap bit wide : ℕ) (g : gap < 65536) (b : bit < 256) where
@@ -39,31 +39,21 @@ module _ (slot gap bit wide : ℕ) (g : gap < 65536) (b : bit < 256) where
   word-width = omega arith
 
 -- of a form
-module _
-    (first steps map tail marked chapters : ℕ) (f : first < 65536) (s : steps < 256) (m : map < 256) (t : tail < 65536) (k : marked < 256)
-  where
-    pub form-first : firstIn (formOf first steps map tail marked chapters) ≡ first
-    form-first = omega arith
+module _ (first steps map tail : ℕ) (f : first < 65536) (s : steps < 256) (m : map < 256) (t : tail < 65536) where
+  pub form-first : firstIn (formOf first steps map tail) ≡ first
+  form-first = omega arith
 
-    pub form-steps : stepsIn (formOf first steps map tail marked chapters) ≡ steps
-    form-steps =
-        let q : formOf first steps map tail marked chapters / 65536 ≡ steps + 256 * map + 65536 * tail + 4294967296 * marked + 1099511627776 * chapters = omega arith in
-        rw q (omega arith)
+  pub form-steps : stepsIn (formOf first steps map tail) ≡ steps
+  form-steps =
+      let q : formOf first steps map tail / 65536 ≡ steps + 256 * map + 65536 * tail = omega arith in
+      rw q (omega arith)
 
-    pub form-map : mapIn (formOf first steps map tail marked chapters) ≡ map
-    form-map =
-        let q : formOf first steps map tail marked chapters / 16777216 ≡ map + 256 * tail + 16777216 * marked + 4294967296 * chapters = omega arith in
-        rw q (omega arith)
+  pub form-map : mapIn (formOf first steps map tail) ≡ map
+  form-map =
+      let q : formOf first steps map tail / 16777216 ≡ map + 256 * tail = omega arith in
+      rw q (omega arith)
 
-    pub form-tail : tailIn (formOf first steps map tail marked chapters) ≡ tail
-    form-tail =
-        let q : formOf first steps map tail marked chapters / 4294967296 ≡ tail + 65536 * marked + 16777216 * chapters = omega arith in
-        rw q (omega arith)
-
-    pub form-marked : markedIn (formOf first steps map tail marked chapters) ≡ marked
-    form-marked =
-        let q : formOf first steps map tail marked chapters / 281474976710656 ≡ marked + 256 * chapters = omega arith in
-        rw q (omega arith)
-
-    pub form-chapters : chaptersIn (formOf first steps map tail marked chapters) ≡ chapters
-    form-chapters = omega arith
+  pub form-tail : tailIn (formOf first steps map tail) ≡ tail
+  form-tail =
+      let q : formOf first steps map tail / 4294967296 ≡ tail = omega arith in
+      rw q (omega arith)

@@ -1,18 +1,12 @@
 -- The maps in front of row data, as code checks them.
 -- Assumes nothing.
-use Prim.Native.Nat.{ℕ, _+_, _<_}
-use mathlib.Core.Path.{_≡_}
+use Prim.Native.Nat.{ℕ, _+_}
 use mathlib.Core.List.{List}
-use mathlib.Core.Bool.{Bool, false}
-use lib.ListN.{getD, drop}
-use Rattle.wire.specs.Read.{Bytes, Read, ok, _>>=_}
+use lib.ListN.{drop}
+use Rattle.wire.specs.Read.{Bytes, Read, _>>=_}
 use Rattle.column.specs.declared.column.Column.{Column}
 use Rattle.row.specs.Presence.{clear}
 use Rattle.row.specs.Updates.{numbered, updateBytes, chapterMarked, forceBroken}
-
--- where a test finds none of n bytes from `at` on that is not 0, they are 0
-abbrev pub AllZero : Bytes → (at n : ℕ) → Bool → Type 0
-AllZero s at n found = found ≡ false → (i : ℕ) → i < n → getD s (at + i) 0 ≡ 0
 
 -- the rules of the two maps of update data at `at`: chapters in the update map, in the force-null map (12), forced nulls (13)
 unfoldable pub mapRules : List Column → Bytes → ℕ → Read (Unit {0})

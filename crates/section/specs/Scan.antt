@@ -3,18 +3,26 @@
 use Prim.Native.Nat.{ℕ, _+_, _*_}
 use mathlib.Core.Path.{_≡_}
 use mathlib.Core.List.{List, [], _∷_}
-use Rattle.wire.specs.Read.{Bytes, Read, ok}
+use Rattle.wire.specs.Read.{Bytes, ok}
 use Rattle.wire.specs.Output.{put}
 use Rattle.section.specs.declared.read.RowsRead.{RowsRead}
+use Rattle.schema.specs.Schemas.{Schema}
 use Rattle.grammar.specs.Grammar.{Row}
+use Rattle.grammar.specs.Reader.{section}
 use Rattle.section.specs.Table.{rowNumbers, rowCount, toldRows}
+use Rattle.section.specs.Sizes.{NotedOr0, Accepted}
 
 -- a table with rows laid into it, the first as row i; a row that does not fit leaves it
 unfoldable pub laidFrom : ℕ → List Row → List ℕ → List ℕ
 laidFrom i [] table = table
 laidFrom i (r ∷ rs) table = laidFrom (i + 1) rs (put table (4 * i) (rowNumbers r))
 
--- A pass answers the rows or the first error, and where it is no error lays the rows into the table.
-pub record Scanned (rs : Read (List Row)) (entry exit : List ℕ) (answer : RowsRead) : Type 0 where
-  pub answers : toldRows answer ≡ rowCount rs
-  pub lays : (rows : List Row) → rs ≡ ok rows → exit ≡ laidFrom 0 rows entry
+-- A pass answers the rows or the first error, and where it is no error lays the rows into the table and notes the sizes of all elements, or 0.
+pub record Scanned (S : List Schema) (s : Bytes) (entry exit sizes : List ℕ) (answer : RowsRead) : Type 0 where
+  pub answers : toldRows answer ≡ rowCount (section S s)
+  pub lays : (rows : List Row) → section S s ≡ ok rows → exit ≡ laidFrom 0 rows entry
+  pub notes : (rows : List Row) → section S s ≡ ok rows → NotedOr0 S s sizes
+
+-- the rows of a section that was accepted are laid into the table
+abbrev pub Filled : (s : Bytes) (sizes entry exit : List ℕ) → Type 0
+Filled s sizes entry exit = (a : Accepted s sizes) → exit ≡ laidFrom 0 (a .rows) entry

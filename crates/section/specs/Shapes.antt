@@ -3,16 +3,13 @@
 use Prim.Native.Nat.{ℕ, _+_, _*_, _/_, _%_, _<_, _≤_}
 use mathlib.Core.Path.{_≡_}
 use mathlib.Core.Logic.{_⊎_}
-use mathlib.Core.List.{List, [], _∷_, map}
-use mathlib.Core.Bool.{Bool, true, false}
+use mathlib.Core.List.{List, map}
 use mathlib.Core.Option.{some}
-use lib.ListN.{length, getD, drop}
-use Rattle.wire.specs.Read.{Bytes, pick}
+use lib.ListN.{length, getD}
 use Rattle.column.specs.declared.column.Column.{Column}
-use Rattle.column.specs.Columns.{width, isChapter, isNullable, isStop}
-use Rattle.row.specs.Presence.{one, presenceBytes, mark, marks, present}
-use Rattle.row.specs.Updates.{carried}
-use Rattle.schema.specs.Schemas.{asColumn, schema, columnCount, childNumber}
+use Rattle.column.specs.Columns.{width, isStop}
+use Rattle.row.specs.Presence.{presenceBytes, marks}
+use Rattle.schema.specs.Schemas.{asColumn, columnCount, childNumber}
 use Rattle.schema.specs.Table.{schemaSlot, startIn, countIn, idIn, entryIn, entriesIn, schemasIn}
 use Rattle.section.specs.Steps.{Step, noStep, stepsFrom, tailFrom}
 
@@ -33,11 +30,9 @@ bitOfWord word = word / 281474976710656 % 256
 abbrev pub widthOfWord : ℕ → ℕ
 widthOfWord word = word / 72057594037927936
 
--- A form of a schema: the word of its first step, how many steps it has, the bytes of its presence map, the bytes behind the last step,
--- how many chapters are nullable, how many columns are chapters.
-abbrev pub formOf : (first steps map tail marked chapters : ℕ) → ℕ
-formOf first steps map tail marked chapters =
-    first + 65536 * steps + 16777216 * map + 4294967296 * tail + 281474976710656 * marked + 72057594037927936 * chapters
+-- A form of a schema: the word of its first step, how many steps it has, the bytes of its presence map, the bytes behind the last step.
+abbrev pub formOf : (first steps map tail : ℕ) → ℕ
+formOf first steps map tail = first + 65536 * steps + 16777216 * map + 4294967296 * tail
 
 -- and its parts again
 abbrev pub firstIn : ℕ → ℕ
@@ -51,22 +46,6 @@ mapIn form = form / 16777216 % 256
 
 abbrev pub tailIn : ℕ → ℕ
 tailIn form = form / 4294967296 % 65536
-
-abbrev pub markedIn : ℕ → ℕ
-markedIn form = form / 281474976710656 % 256
-
-abbrev pub chaptersIn : ℕ → ℕ
-chaptersIn form = form / 72057594037927936
-
--- how many columns are chapters that are nullable
-unfoldable pub markedCount : List Column → ℕ
-markedCount [] = 0
-markedCount (c ∷ cs) = one (pick (isChapter c) (isNullable c) false) + markedCount cs
-
--- how many columns are chapters
-unfoldable pub chapterCount : List Column → ℕ
-chapterCount [] = 0
-chapterCount (c ∷ cs) = one (isChapter c) + chapterCount cs
 
 -- a word says a step
 pub record Says (word : ℕ) (t : Step) : Type 0 where
@@ -104,8 +83,6 @@ pub record Formed (words : List ℕ) (form : ℕ) (cs : List Column) : Type 0 wh
   pub count : stepsIn form ≡ length (rowSteps cs)
   pub map : mapIn form ≡ presenceBytes cs
   pub tail : tailIn form ≡ tailFrom isStop 0 (marks 0 cs)
-  pub marked : markedIn form ≡ markedCount cs
-  pub chapters : chaptersIn form ≡ chapterCount cs
 
 -- Of n schemas in a table of slots: the slots of each lie in the table, and each nested one is found by its id.
 pub record Sound (slots : List ℕ) (n : ℕ) : Type 0 where
@@ -137,8 +114,3 @@ pub record AllUpdates (slots entry exit : List ℕ) : Type 0 where
 pub record AllForms (slots : List ℕ) (n : ℕ) (entry exit forms : List ℕ) : Type 0 where
   pub formed : (k : ℕ) → k < n → Formed exit (getD forms k 0) (slotColumns slots k)
   pub others : (i : ℕ) → updateWords ≤ i → getD exit i 0 ≡ getD entry i 0
-
--- By the maps at these places a row has a field for a word: update data where `update` says so, there for the column of this number.
-abbrev pub hasWord : (update : Bool) → Bytes → (map force : ℕ) → (word number : ℕ) → Bool
-hasWord true s map force word number = carried (drop map s) (drop force s) (mark (columnOf word) number)
-hasWord false s map force word number = present (drop map s) (mark (columnOf word) (bitOfWord word))

@@ -14,7 +14,8 @@ use Rattle.row.specs.Updates.{numbered, carriedIn, updateEnd}
 use Rattle.section.specs.declared.ways.Way.{Way}
 use Rattle.section.specs.declared.ways.Way.the-variants as way
 use Rattle.section.specs.Steps.{Step, noStep, anyColumn, stepsFrom, leap}
-use Rattle.section.specs.Shapes.{columnOf, gapOf, widthOfWord, rowSteps, hasWord}
+use Rattle.section.specs.Shapes.{columnOf, gapOf, widthOfWord, rowSteps}
+use Rattle.section.specs.Maps.{hasWord}
 
 -- where row data end: update data where `update` says so, else original row data
 abbrev pub dataEnd : (update : Bool) → List Column → Bytes → ℕ → Read ℕ
@@ -31,26 +32,24 @@ abbrev pub dataSteps : (update : Bool) → List Column → List Step
 dataSteps true cs = stepsFrom anyColumn 0 (numbered 0 cs)
 dataSteps false cs = rowSteps cs
 
--- a word leads to a step of the data
-pub record Leads (update : Bool) (cs : List Column) (s : Bytes) (start force : ℕ) (word number : ℕ) (t : Step) : Type 0 where
+-- a word leads to a step of the data, by the bits of their map
+pub record Leads (update : Bool) (cs : List Column) (s : Bytes) (start bits : ℕ) (word number : ℕ) (t : Step) : Type 0 where
   pub column : columnOf word ≡ t .mark .column
   pub gap : gapOf word ≡ t .gap
   pub width : widthOfWord word ≡ width (columnOf word)
-  pub has : hasWord update s start force word number ≡ dataHas update cs s start (t .mark)
+  pub has : hasWord update bits word number ≡ dataHas update cs s start (t .mark)
 
 -- The data that start at `start` open, and `count` words from `first` on lead from `fields` over them, `tail` bytes behind the last one.
-pub record Led (words : List ℕ) (update : Bool) (cs : List Column) (s : Bytes) (start fields first count tail force : ℕ) : Type 0 where
+pub record Led (words : List ℕ) (update : Bool) (cs : List Column) (s : Bytes) (start fields first count tail bits : ℕ) : Type 0 where
   pub ends : dataEnd update cs s start ≡ leap (dataHas update cs s start) s (dataSteps update cs) tail fields
   pub all : count ≡ length (dataSteps update cs)
   pub few : count ≤ 64
   pub inside : first + count ≤ 512
-  pub leads : (i : ℕ) → i < count → Leads update cs s start force (getD words (first + i) 0) i (getD (dataSteps update cs) i noStep)
-  pub starts : start ≤ length s
-  pub forces : force ≤ length s
+  pub leads : (i : ℕ) → i < count → Leads update cs s start bits (getD words (first + i) 0) i (getD (dataSteps update cs) i noStep)
   pub begins : fields ≤ length s
   pub forward : start ≤ fields
   pub small : tail < 65536
 
 abbrev pub WayIs : (words : List ℕ) (update : Bool) → List Column → Bytes → (start : ℕ) → Way → Type 0
-WayIs words update cs s start (way.Open fields first count tail force) = Led words update cs s start fields first count tail force
+WayIs words update cs s start (way.Open fields first count tail bits) = Led words update cs s start fields first count tail bits
 WayIs words update cs s start (way.Refused e) = dataEnd update cs s start ≡ refused e

@@ -1,11 +1,10 @@
 // Row data up to their fields: the maps in front of them, and the rules of these.
 ghost use mathlib.Core.Path.{_≡_};
 ghost use Prim.Native.Nat.{_+_, _*_, _≤_};
-ghost use mathlib.Core.Bool.{not};
-ghost use lib.Dec.{eqb};
+ghost use mathlib.Core.Bool.{true};
 ghost use lib.ListN.{length, drop};
 ghost use mathlib.Core.List.{map};
-ghost use Rattle.wire.specs.Read.{toldMatch};
+ghost use Rattle.wire.specs.Read.{toldMatch, ok};
 ghost use Rattle.wire.specs.Bits.{mapBytes};
 ghost use Rattle.wire.specs.Integers.{toldInt};
 ghost use Rattle.row.specs.Presence.{marks, clear, chapterPresent, presenceBytes};
@@ -13,8 +12,7 @@ ghost use Rattle.row.specs.Rows.{opened};
 ghost use Rattle.row.specs.Updates.{numbered, chapterMarked, forceBroken, updateOpened};
 ghost use Rattle.schema.specs.Schemas.{asColumn};
 ghost use Rattle.schema.specs.Table.{entriesIn, entryIn};
-ghost use Rattle.section.specs.Data.{AllZero, mapRules};
-ghost use Rattle.section.specs.Shapes.{mapIn, markedIn, chaptersIn, markedCount, chapterCount};
+ghost use Rattle.section.specs.Data.{mapRules};
 use column::column::Column;
 use row::rows::is_chapter_set;
 use row::rows::one;
@@ -119,34 +117,20 @@ fn check_force(
     Matched::Same
 }
 
-// Whether one of the `n` bytes from `at` on is not 0.
-fn any_set(section: &[u8], at: usize, n: usize) -> bool
-    requires { ⌜ at + n ≤ length (now section) ⌝ }
-    ensures { λ r. ⌜ AllZero (now (section .entry)) at n r ⌝ }
-{
-    let mut i = 0;
-    while i < n {
-        if section[at + i] != 0 {
-            return true;
-        }
-        i += 1;
-    }
-    false
-}
-
-// Opens original row data of the columns in `count` slots: the map is whole, no chapter's bit is set. Where the fields start.
+// Opens original row data of the columns in `count` slots: the map, of `size` bytes, is whole, no chapter's bit is set. Where `kept` says that
+// none is, no column is looked at. Where the fields start.
 pub(crate) fn open_original(
     slots: &[u64; 512],
     first: usize,
     count: usize,
-    form: u64,
+    size: usize,
+    kept: bool,
     section: &[u8],
     at: usize,
 ) -> IntRead
-    requires { ⌜ (first + count ≤ 256) × (count ≤ 64) × (mapIn form ≡ presenceBytes (map asColumn (entriesIn first count (now slots)))) × (markedIn form ≡ markedCount (map asColumn (entriesIn first count (now slots)))) ⌝ }
+    requires { ⌜ (first + count ≤ 256) × (count ≤ 64) × (size ≡ presenceBytes (map asColumn (entriesIn first count (now slots)))) × (kept ≡ true → clear (chapterPresent (drop at (now section))) 12 at (marks 0 (map asColumn (entriesIn first count (now slots)))) ≡ ok tt) ⌝ }
     ensures { λ r. ⌜ toldInt r ≡ opened (map asColumn (entriesIn first count (now (slots .entry)))) (now (section .entry)) at ⌝ }
 {
-    let size = (form / 16_777_216 % 256) as usize;
     if lacks(section.len(), at, size) {
         return IntRead::Refused(Error {
             kind: ErrorKind::Short,
@@ -154,59 +138,41 @@ pub(crate) fn open_original(
             input: Input::Single,
         });
     }
-    if form / 281_474_976_710_656 % 256 != 0 {
-        return match check_presence(slots, first, count, section, at) {
-            Matched::Refused(e) => IntRead::Refused(e),
-            Matched::Same => IntRead::Int(at + size),
-        };
+    if kept {
+        return IntRead::Int(at + size);
     }
-    IntRead::Int(at + size)
+    match check_presence(slots, first, count, section, at) {
+        Matched::Refused(e) => IntRead::Refused(e),
+        Matched::Same => IntRead::Int(at + size),
+    }
 }
 
-// The rules of the two maps of update data, which are whole: of a schema with chapters, where the flag says so.
-fn check_maps(
-    slots: &[u64; 512],
-    first: usize,
-    count: usize,
-    chapters: bool,
-    section: &[u8],
-    at: usize,
-) -> Matched
-    requires { ⌜ (first + count ≤ 256) × (count ≤ 64) × (chapters ≡ not (eqb (chapterCount (map asColumn (entriesIn first count (now slots)))) 0)) × (at + 2 * mapBytes count ≤ length (now section)) ⌝ }
+// The rules of the two maps of update data, which are whole.
+fn check_maps(slots: &[u64; 512], first: usize, count: usize, section: &[u8], at: usize) -> Matched
+    requires { ⌜ (first + count ≤ 256) × (count ≤ 64) × (at + 2 * mapBytes count ≤ length (now section)) ⌝ }
     ensures { λ r. ⌜ toldMatch r ≡ mapRules (map asColumn (entriesIn first count (now (slots .entry)))) (now (section .entry)) at ⌝ }
 {
     let force = at + map_bytes(count);
-    if chapters {
-        match check_chapters(slots, first, count, section, at) {
-            Matched::Refused(e) => {
-                return Matched::Refused(e);
-            }
-            Matched::Same => match check_chapters(slots, first, count, section, force) {
-                Matched::Refused(e) => {
-                    return Matched::Refused(e);
-                }
-                Matched::Same => {
-                    return check_force(slots, first, count, section, at, force);
-                }
-            },
-        }
+    match check_chapters(slots, first, count, section, at) {
+        Matched::Refused(e) => Matched::Refused(e),
+        Matched::Same => match check_chapters(slots, first, count, section, force) {
+            Matched::Refused(e) => Matched::Refused(e),
+            Matched::Same => check_force(slots, first, count, section, at, force),
+        },
     }
-    if any_set(section, force, map_bytes(count)) {
-        return check_force(slots, first, count, section, at, force);
-    }
-    Matched::Same
 }
 
-// Opens update data of the columns in `count` slots: both maps are whole and keep all rules. Where the fields start.
+// Opens update data of the columns in `count` slots: both maps are whole and keep all rules. Where `kept` says that they do, no column is
+// looked at. Where the fields start.
 pub(crate) fn open_update(
     slots: &[u64; 512],
     first: usize,
     count: usize,
-    form: u64,
+    kept: bool,
     section: &[u8],
     at: usize,
 ) -> IntRead
-    requires { ⌜ (first + count ≤ 256) × (count ≤ 64) × (chaptersIn form ≡ chapterCount (map asColumn (entriesIn first count (now slots)))) ⌝ }
+    requires { ⌜ (first + count ≤ 256) × (count ≤ 64) × (kept ≡ true → mapRules (map asColumn (entriesIn first count (now slots))) (now section) at ≡ ok tt) ⌝ }
     ensures { λ r. ⌜ toldInt r ≡ updateOpened (map asColumn (entriesIn first count (now (slots .entry)))) (now (section .entry)) at ⌝ }
 {
     let size = map_bytes(count);
@@ -217,8 +183,10 @@ pub(crate) fn open_update(
             input: Input::Single,
         });
     }
-    let chapters = form / 72_057_594_037_927_936 != 0;
-    match check_maps(slots, first, count, chapters, section, at) {
+    if kept {
+        return IntRead::Int(at + 2 * size);
+    }
+    match check_maps(slots, first, count, section, at) {
         Matched::Refused(e) => IntRead::Refused(e),
         Matched::Same => IntRead::Int(at + 2 * size),
     }

@@ -1,12 +1,14 @@
 // The head of an element: its token and its child id.
 ghost use mathlib.Core.Path.{_≡_};
 ghost use Prim.Native.Nat.{_<_, _≤_};
+ghost use mathlib.Core.List.{[]};
 ghost use lib.ListN.{length};
 ghost use Rattle.wire.specs.Integers.{toldInt};
 ghost use Rattle.schema.specs.Table.{schemasIn};
 ghost use Rattle.section.specs.Shapes.{Sound};
 ghost use Rattle.section.specs.Heads.{headAt, headBy, beforeIn, pairedId, toldHead};
-ghost use Rattle.grammar.specs.Reader.{childToken};
+ghost use Rattle.grammar.specs.Grammar.{other};
+ghost use Rattle.grammar.specs.Reader.{childToken, changeToken, deleteToken, doneToken};
 use crate::children::find_child;
 use crate::children::id_in;
 use wire::error::Error;
@@ -93,6 +95,48 @@ fn paired_id(slots: &[u64; 512], section: &[u8], at: usize, child: usize) -> Int
     }
 }
 
+// An 8A element's head: it changes the row of the 87 element directly before.
+fn change_head(slots: &[u64; 512], schemas: usize, section: &[u8], at: usize, child: usize) -> Head
+    requires { ⌜ Sound (now slots) schemas × (child < schemas) × (at < length (now section)) × (length (now section) ≤ 16777216) ⌝ }
+    ensures { λ r. ⌜ toldHead r ≡ headBy (schemasIn 0 schemas (now (slots .entry))) (now (section .entry)) (beforeIn (now (slots .entry)) child) at changeToken ⌝ }
+{
+    match paired_id(slots, section, at, child) {
+        IntRead::Refused(e) => Head::Refused(e),
+        IntRead::Int(id) => Head::Data {
+            kind: 3,
+            number: child,
+            id,
+            start: at + 5,
+        },
+    }
+}
+
+// An 8C element's head.
+fn delete_head(slots: &[u64; 512], section: &[u8], at: usize, child: usize) -> Head
+    requires { ⌜ (child < 256) × (at < length (now section)) ⌝ }
+    ensures { λ r. ⌜ toldHead r ≡ headBy [] (now (section .entry)) (beforeIn (now (slots .entry)) child) at deleteToken ⌝ }
+{
+    match paired_id(slots, section, at, child) {
+        IntRead::Refused(e) => Head::Refused(e),
+        IntRead::Int(id) => Head::Delete(id),
+    }
+}
+
+// The done token's head: no byte is behind it.
+fn done_head(section: &[u8], at: usize) -> Head
+    requires { ⌜ at < length (now section) ⌝ }
+    ensures { λ r. ⌜ toldHead r ≡ headBy [] (now (section .entry)) other at doneToken ⌝ }
+{
+    if section.len() == at + 1 {
+        return Head::Done;
+    }
+    Head::Refused(Error {
+        kind: ErrorKind::Trailing,
+        offset: at + 1,
+        input: Input::Single,
+    })
+}
+
 // The head of the element at `at`, where `child` is the schema number of an 87 element directly before it, else 0.
 pub(crate) fn head_at<'a>(
     slots: &'a [u64; 512],
@@ -125,31 +169,13 @@ pub(crate) fn head_at<'a>(
         return child_head(slots, numbers, schemas, section, at);
     }
     if token == CHANGE {
-        return match paired_id(slots, section, at, child) {
-            IntRead::Refused(e) => Head::Refused(e),
-            IntRead::Int(id) => Head::Data {
-                kind: 3,
-                number: child,
-                id,
-                start: at + 5,
-            },
-        };
+        return change_head(slots, schemas, section, at, child);
     }
     if token == DELETE {
-        return match paired_id(slots, section, at, child) {
-            IntRead::Refused(e) => Head::Refused(e),
-            IntRead::Int(id) => Head::Delete(id),
-        };
+        return delete_head(slots, section, at, child);
     }
     if token == DONE {
-        if section.len() == at + 1 {
-            return Head::Done;
-        }
-        return Head::Refused(Error {
-            kind: ErrorKind::Trailing,
-            offset: at + 1,
-            input: Input::Single,
-        });
+        return done_head(section, at);
     }
     Head::Refused(Error {
         kind: ErrorKind::UnknownToken,

@@ -4,6 +4,8 @@
 mod children;
 mod data;
 mod heads;
+mod maps;
+mod masks;
 pub mod read;
 mod shapes;
 mod steps;

@@ -1,22 +1,28 @@
 // The row section reader: a pass over a section, element by element and column by column, and the table of rows that it fills.
 ghost use mathlib.Core.Path.{_≡_};
-ghost use Prim.Native.Nat.{_*_, _≤_, _<_};
+ghost use Prim.Native.Nat.{_+_, _*_, _≤_, _<_};
 ghost use lib.ListN.{length};
+ghost use lib.Dec.{eqb};
+ghost use Rattle.wire.specs.Read.{pick};
 ghost use Rattle.wire.specs.Output.{put};
 ghost use Rattle.schema.specs.Table.{schemasIn};
 ghost use Rattle.grammar.specs.Grammar.{entry};
-ghost use Rattle.grammar.specs.Reader.{section as sectionRows};
+ghost use Rattle.grammar.specs.Reader.{idAt};
 ghost use Rattle.section.specs.Shapes.{Sound, Shaped};
+ghost use Rattle.section.specs.Maps.{AllMasked};
 ghost use Rattle.section.specs.Table.{rowNumbers, rowsFitting, rowsRead, Listed};
-ghost use Rattle.section.specs.Scan.{Scanned};
+ghost use Rattle.section.specs.Sizes.{NotedAt, Accepted};
+ghost use Rattle.section.specs.Scan.{Scanned, Filled};
 ghost use Rattle.section.specs.declared.read.RowsRead.the-variants as read;
 use crate::children::guesses;
 use crate::heads::Head;
 use crate::heads::head_at;
+use crate::masks::all_masks;
 use crate::shapes::add_forms;
 use crate::shapes::add_updates;
 use crate::steps::Span;
 use crate::steps::has_word;
+use crate::steps::length_at;
 use crate::steps::span_at;
 use crate::ways::Way;
 use crate::ways::way_over;
@@ -27,6 +33,10 @@ use wire::bytes::copy_numbers;
 use wire::error::Error;
 use wire::error::ErrorKind;
 use wire::error::Input;
+use wire::integer::wide;
+
+// A section of up to so many bytes has no sizes noted: to clear the notes would take as long as a second pass.
+const SHORT: usize = 16_384;
 
 // How many rows a section has, or why it is refused.
 pub enum RowsRead {
@@ -49,23 +59,48 @@ fn put_row(table: &mut [u32], i: usize, kind: u32, id: u32, original: u32, updat
     table[at + 3] = update;
 }
 
-// One pass over a section: how many rows it has, or the first error. Rows that the table has room for are written into it.
+// Notes the size of an element at `i`, and answers where the next one goes. What can't be noted makes the first size 0.
+fn note(sizes: &mut [u8], i: usize, size: usize) -> usize
+    requires { ⌜ (1 ≤ length (now sizes)) × (1 ≤ size) × (i ≤ length (now sizes)) × (length (now sizes) ≤ 16777216) ⌝ }
+    ensures { λ r. ⌜ NotedAt (now (sizes .entry)) (now (sizes .exit)) i size r × (r ≤ length (now (sizes .exit))) ⌝ }
+{
+    if i + 3 < sizes.len() {
+        if size < 255 {
+            sizes[i] = size as u8;
+            return i + 1;
+        }
+        if size < 65_536 {
+            sizes[i] = 255;
+            sizes[i + 1] = (size / 256) as u8;
+            sizes[i + 2] = (size % 256) as u8;
+            return i + 3;
+        }
+    }
+    sizes[0] = 0;
+    sizes.len()
+}
+
+// One pass over a section: how many rows it has, or the first error. Rows that the table has room for are written into it, and the sizes of
+// the elements are noted, where there is room for all.
 fn scan<'a>(
     slots: &'a [u64; 512],
     words: &'a [u64; 512],
     forms: &'a [u64; 256],
+    masks: &'a [u64; 1024],
     numbers: &'a [u8; 256],
     schemas: usize,
     section: &[u8],
     table: &mut [u32],
+    sizes: &mut [u8],
 ) -> RowsRead
-    requires { ⌜ Sound (now slots) schemas × Shaped (now slots) (now words) (now forms) schemas × (length (now section) ≤ 16777216) ⌝ }
-    ensures { λ r. ⌜ Scanned (sectionRows (schemasIn 0 schemas (now (slots .entry))) (now (section .entry))) (now (table .entry)) (now (table .exit)) r ⌝ }
+    requires { ⌜ Sound (now slots) schemas × Shaped (now slots) (now words) (now forms) schemas × AllMasked (now slots) (now masks) schemas × (length (now section) ≤ 16777216) × (1 ≤ length (now sizes)) × (length (now sizes) ≤ 16777216) ⌝ }
+    ensures { λ r. ⌜ Scanned (schemasIn 0 schemas (now (slots .entry))) (now (section .entry)) (now (table .entry)) (now (table .exit)) (now (sizes .exit)) r × (length (now (sizes .exit)) ≡ length (now (sizes .entry))) ⌝ }
 {
     let mut at = 0;
     let mut rows = 0;
     let mut child = 0;
     let mut origin = 0;
+    let mut used = 0;
     let answer = 'section: loop {
         match head_at(slots, numbers, schemas, section, at, child) {
             Head::Refused(e) => {
@@ -76,6 +111,7 @@ fn scan<'a>(
             }
             Head::Delete(id) => {
                 put_row(table, rows - 1, 4, id as u32, origin as u32, 0);
+                used = note(sizes, used, 5);
                 at += 5;
                 child = 0;
             }
@@ -86,7 +122,17 @@ fn scan<'a>(
                 start,
             } => {
                 let update = kind == 3;
-                match way_over(slots, words, forms, schemas, number, update, section, start) {
+                match way_over(
+                    slots,
+                    words,
+                    forms,
+                    masks,
+                    schemas,
+                    number,
+                    update,
+                    section,
+                    start,
+                ) {
                     Way::Refused(e) => {
                         break 'section RowsRead::Refused(e);
                     }
@@ -95,14 +141,14 @@ fn scan<'a>(
                         first,
                         count,
                         tail,
-                        force,
+                        bits,
                     } => {
                         let mut p = fields;
                         let mut j = 0;
                         while j < count {
                             let word = words[first + j];
                             let q = p + (word / 4_294_967_296 % 65_536) as usize;
-                            let has = has_word(section, update, start, force, word, j);
+                            let has = has_word(update, bits, word, j);
                             match span_at(word, section, q, has) {
                                 Span::Refused(k) => {
                                     break 'section RowsRead::Refused(Error {
@@ -125,6 +171,7 @@ fn scan<'a>(
                                 input: Input::Single,
                             });
                         }
+                        used = note(sizes, used, end - at);
                         at = end;
                         if update {
                             put_row(table, rows - 1, 3, id as u32, origin as u32, start as u32);
@@ -143,6 +190,64 @@ fn scan<'a>(
     answer
 }
 
+// The four bytes behind the one at `at` as a number; 0 where they are not whole.
+fn id_behind(section: &[u8], at: usize) -> usize
+    requires { ⌜ at ≤ 16777216 ⌝ }
+    ensures { λ r. ⌜ (r < 4294967296) × (at + 5 ≤ length (now (section .entry)) → r ≡ idAt (now (section .entry)) at) ⌝ }
+{
+    if section.len() < at + 5 {
+        return 0;
+    }
+    length_at(section, at + 1, 4)
+}
+
+// The first of two numbers, or the second where `second` is 1.
+fn chosen(first: usize, other: usize, second: usize) -> usize
+    ensures { λ r. ⌜ r ≡ pick (eqb second 0) first other ⌝ }
+{
+    if second == 0 {
+        return first;
+    }
+    other
+}
+
+// Fills the table with the rows of a section that was accepted, from size to size. No branch depends on which element it is.
+fn fill<'a>(section: &'a [u8], sizes: &'a [u8], table: &mut [u32])
+    requires { ⌜ Accepted (now section) (now sizes) × (length (now section) ≤ 16777216) × (length (now sizes) ≤ 16777216) ⌝ }
+    ensures { λ r. ⌜ Filled (now (section .entry)) (now (sizes .entry)) (now (table .entry)) (now (table .exit)) ⌝ }
+{
+    let mut at = 0;
+    let mut rows = 0;
+    let mut origin = 0;
+    let mut i = 0;
+    while section[at] != 0x0F {
+        let token = wide(section[at]);
+        let child = token / 128;
+        let kind = (token % 16 + 4 * child) / 4;
+        let start = at + 1 + 4 * child;
+        let id = chosen(0, id_behind(section, at), child);
+        let update = chosen(0, start, kind % 4 / 3);
+        origin = chosen(start, origin, kind / 3);
+        rows += 1 - kind / 3;
+        put_row(
+            table,
+            rows - 1,
+            kind as u32,
+            id as u32,
+            origin as u32,
+            update as u32,
+        );
+        let size = wide(sizes[i]);
+        if size < 255 {
+            at += size;
+            i += 1;
+        } else {
+            at += 256 * wide(sizes[i + 1]) + wide(sizes[i + 2]);
+            i += 3;
+        }
+    }
+}
+
 // The same error, about an input of a call with several.
 fn refuse(e: Error, name: Input) -> RowsRead
     ensures { λ r. ⌜ r ≡ read.Refused (record { kind = e .kind; offset = e .offset; input = name }) ⌝ }
@@ -155,19 +260,34 @@ fn refuse(e: Error, name: Input) -> RowsRead
     })
 }
 
-// Reads a section by the schemas in a table of slots. The first pass counts the rows and holds the first 256 of them; where the table has
-// room for all, and more were not held, a second pass fills it.
-fn read_rows(slots: &[u64; 512], schemas: usize, section: &[u8], table: &mut [u32]) -> RowsRead
-    requires { ⌜ Sound (now slots) schemas × (length (now section) ≤ 16777216) ⌝ }
+// Reads a section by words, forms and masks of its schemas. The first pass counts the rows, holds the first 256 of them and notes sizes.
+// Where the table has room for all rows, those that were held are copied; more are filled in by the sizes, or else by a second pass.
+fn read_noting<'a>(
+    slots: &'a [u64; 512],
+    words: &'a [u64; 512],
+    forms: &'a [u64; 256],
+    masks: &'a [u64; 1024],
+    numbers: &'a [u8; 256],
+    schemas: usize,
+    section: &[u8],
+    table: &mut [u32],
+    sizes: &mut [u8],
+) -> RowsRead
+    requires { ⌜ Sound (now slots) schemas × Shaped (now slots) (now words) (now forms) schemas × AllMasked (now slots) (now masks) schemas × (length (now section) ≤ 16777216) × (1 ≤ length (now sizes)) × (length (now sizes) ≤ 16777216) ⌝ }
     ensures { λ r. ⌜ Listed (rowsFitting (schemasIn 0 schemas (now (slots .entry))) (now (section .entry)) (length (now (table .entry)))) (now (table .entry)) (now (table .exit)) r ⌝ }
 {
-    let mut words = [0u64; 512];
-    let mut forms = [0u64; 256];
-    add_updates(slots, &mut words);
-    add_forms(slots, schemas, &mut words, &mut forms);
-    let numbers = guesses(slots, schemas);
     let mut held = [0u32; 1_024];
-    match scan(slots, &words, &forms, &numbers, schemas, section, &mut held) {
+    match scan(
+        slots,
+        words,
+        forms,
+        masks,
+        numbers,
+        schemas,
+        section,
+        &mut held,
+        sizes,
+    ) {
         RowsRead::Refused(e) => refuse(e, Input::Section),
         RowsRead::Rows(n) => {
             if table.len() / 4 < n {
@@ -181,9 +301,89 @@ fn read_rows(slots: &[u64; 512], schemas: usize, section: &[u8], table: &mut [u3
                 copy_numbers(table, &held[..4 * n]);
                 return RowsRead::Rows(n);
             }
-            scan(slots, &words, &forms, &numbers, schemas, section, table)
+            if sizes[0] != 0 {
+                fill(section, &sizes[..], table);
+                return RowsRead::Rows(n);
+            }
+            scan(
+                slots,
+                words,
+                forms,
+                masks,
+                numbers,
+                schemas,
+                section,
+                table,
+                sizes,
+            )
         }
     }
+}
+
+// Reads a section by words, forms and masks of its schemas, with room for sizes. Those of a short section need not be noted.
+fn read_sized<'a>(
+    slots: &'a [u64; 512],
+    words: &'a [u64; 512],
+    forms: &'a [u64; 256],
+    masks: &'a [u64; 1024],
+    numbers: &'a [u8; 256],
+    schemas: usize,
+    section: &[u8],
+    table: &mut [u32],
+) -> RowsRead
+    requires { ⌜ Sound (now slots) schemas × Shaped (now slots) (now words) (now forms) schemas × AllMasked (now slots) (now masks) schemas × (length (now section) ≤ 16777216) ⌝ }
+    ensures { λ r. ⌜ Listed (rowsFitting (schemasIn 0 schemas (now (slots .entry))) (now (section .entry)) (length (now (table .entry)))) (now (table .entry)) (now (table .exit)) r ⌝ }
+{
+    if section.len() <= SHORT {
+        let mut sizes = [0u8; 4];
+        return read_noting(
+            slots,
+            words,
+            forms,
+            masks,
+            numbers,
+            schemas,
+            section,
+            table,
+            &mut sizes,
+        );
+    }
+    let mut sizes = [0u8; 262_144];
+    read_noting(
+        slots,
+        words,
+        forms,
+        masks,
+        numbers,
+        schemas,
+        section,
+        table,
+        &mut sizes,
+    )
+}
+
+// Reads a section by the schemas in a table of slots.
+fn read_rows(slots: &[u64; 512], schemas: usize, section: &[u8], table: &mut [u32]) -> RowsRead
+    requires { ⌜ Sound (now slots) schemas × (length (now section) ≤ 16777216) ⌝ }
+    ensures { λ r. ⌜ Listed (rowsFitting (schemasIn 0 schemas (now (slots .entry))) (now (section .entry)) (length (now (table .entry)))) (now (table .entry)) (now (table .exit)) r ⌝ }
+{
+    let mut words = [0u64; 512];
+    let mut forms = [0u64; 256];
+    let mut masks = [0u64; 1_024];
+    add_updates(slots, &mut words);
+    add_forms(slots, schemas, &mut words, &mut forms);
+    all_masks(slots, schemas, &mut masks);
+    let numbers = guesses(slots, schemas);
+    read_sized(
+        slots,
+        &words,
+        &forms,
+        &masks,
+        &numbers,
+        schemas,
+        section,
+        table,
+    )
 }
 
 // Reads a whole section into a table of rows, four numbers a row; an error leaves the table as it was.

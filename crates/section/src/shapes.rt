@@ -3,26 +3,13 @@ ghost use mathlib.Core.Path.{_≡_};
 ghost use Prim.Native.Nat.{_+_, _≤_, _<_};
 ghost use lib.ListN.{length};
 ghost use mathlib.Core.List.{map};
-ghost use mathlib.Core.Bool.{false};
-ghost use Rattle.wire.specs.Read.{pick};
-ghost use Rattle.column.specs.Columns.{isChapter, isNullable, width};
+ghost use Rattle.column.specs.Columns.{width};
 ghost use Rattle.schema.specs.Schemas.{asColumn};
 ghost use Rattle.schema.specs.Table.{entriesIn, entryIn};
 ghost use Rattle.section.specs.Shapes.{wordOf, formOf, Sound, Added, AllUpdates, AllForms};
 use crate::data::column_in;
-use column::column::Column;
 use row::rows::one;
 use wire::bits::map_bytes;
-
-// Whether a column is a chapter that is nullable.
-fn is_marked(column: Column) -> bool
-    ensures { λ r. ⌜ r ≡ pick (isChapter column) (isNullable column) false ⌝ }
-{
-    if column.is_chapter() {
-        return column.is_nullable();
-    }
-    false
-}
 
 // The word of the column in a slot.
 fn word_of(slot: u64, gap: usize, bit: usize) -> u64
@@ -37,23 +24,11 @@ fn word_of(slot: u64, gap: usize, bit: usize) -> u64
 }
 
 // A form in one number.
-fn form_of(
-    first: usize,
-    steps: usize,
-    map: usize,
-    tail: usize,
-    marked: usize,
-    chapters: usize,
-) -> u64
-    requires { ⌜ (first < 65536) × (steps < 256) × (map < 256) × (tail < 65536) × (marked < 256) × (chapters < 256) ⌝ }
-    ensures { λ r. ⌜ r ≡ formOf first steps map tail marked chapters ⌝ }
+fn form_of(first: usize, steps: usize, map: usize, tail: usize) -> u64
+    requires { ⌜ (first < 65536) × (steps < 256) × (map < 256) × (tail < 65536) ⌝ }
+    ensures { λ r. ⌜ r ≡ formOf first steps map tail ⌝ }
 {
-    (first
-        + 65_536 * steps
-        + 16_777_216 * map
-        + 4_294_967_296 * tail
-        + 281_474_976_710_656 * marked
-        + 72_057_594_037_927_936 * chapters) as u64
+    (first + 65_536 * steps + 16_777_216 * map + 4_294_967_296 * tail) as u64
 }
 
 // The steps over original rows of the columns in `count` slots, into the words from `next` on; and the form of the schema.
@@ -70,14 +45,10 @@ fn add_schema(
     let mut steps = 0;
     let mut gap = 0;
     let mut bit = 0;
-    let mut marked = 0;
-    let mut chapters = 0;
     let mut i = 0;
     while i < count {
         let slot = slots[first + i];
         let column = column_in(slot);
-        marked += one(is_marked(column));
-        chapters += one(column.is_chapter());
         if column.is_stop() {
             words[next + steps] = word_of(slot, gap, bit);
             steps += 1;
@@ -90,7 +61,17 @@ fn add_schema(
             i += 1;
         }
     }
-    form_of(next, steps, map_bytes(bit), gap, marked, chapters)
+    form_of(next, steps, map_bytes(bit), gap)
+}
+
+// The word of the column in a slot, in update data. A slot without a column, which most are, needs no look at its type.
+fn update_word(slot: u64) -> u64
+    ensures { λ r. ⌜ r ≡ wordOf slot 0 0 (width (asColumn (entryIn slot))) ⌝ }
+{
+    if slot == 0 {
+        return 0;
+    }
+    word_of(slot, 0, 0)
 }
 
 // The words of update data: one for each slot of a column.
@@ -100,7 +81,7 @@ pub(crate) fn add_updates(slots: &[u64; 512], words: &mut [u64; 512])
 {
     let mut i = 0;
     while i < 256 {
-        words[256 + i] = word_of(slots[i], 0, 0);
+        words[256 + i] = update_word(slots[i]);
         i += 1;
     }
 }

@@ -1,16 +1,16 @@
 // One step of the way over row data: whether the row has a field there, and how many bytes the field takes.
 ghost use mathlib.Core.Path.{_≡_};
-ghost use Prim.Native.Nat.{_≤_};
+ghost use Prim.Native.Nat.{_*_, _≤_, _<_};
 ghost use lib.ListN.{length};
-ghost use Rattle.wire.specs.Bits.{bitSet};
 ghost use Rattle.wire.specs.Integers.{intAt};
 ghost use Rattle.column.specs.Columns.{width};
 ghost use Rattle.row.specs.Presence.{one};
-ghost use Rattle.section.specs.Shapes.{columnOf, widthOfWord, hasWord};
+ghost use Rattle.section.specs.Shapes.{columnOf, widthOfWord};
+ghost use Rattle.section.specs.Maps.{hasWord};
 ghost use Rattle.section.specs.Spans.{SpanIs, PrefixThere};
 use crate::data::column_in;
+use crate::maps::bit_of;
 use column::column::LengthCheck;
-use row::rows::is_present;
 use row::rows::one;
 use wire::bytes::lacks;
 use wire::error::ErrorKind;
@@ -22,40 +22,20 @@ pub enum Span {
     Refused(ErrorKind),
 }
 
-// Bit `i` of a map as a number; 0 past its end.
-fn bit_in(map: &[u8], i: usize) -> usize
-    ensures { λ r. ⌜ (r ≡ one (bitSet (now (map .entry)) i)) × (r ≤ 1) ⌝ }
-{
-    if map.len() <= i / 8 {
-        return 0;
-    }
-    ((map[i / 8] >> (7 - i % 8)) % 2) as usize
-}
-
-// 1 where a row has a field for a word, else 0, by its maps at `map` and `force`: of update data by the column's number. No branch
-// depends on a bit.
-pub(crate) fn has_word(
-    section: &[u8],
-    update: bool,
-    map: usize,
-    force: usize,
-    word: u64,
-    number: usize,
-) -> usize
-    requires { ⌜ (map ≤ length (now section)) × (force ≤ length (now section)) ⌝ }
-    ensures { λ r. ⌜ (r ≡ one (hasWord update (now (section .entry)) map force word number)) × (r ≤ 1) ⌝ }
+// 1 where a row has a field for a word, else 0, by the bits of its map: of update data by the column's number. No branch depends on a bit.
+pub(crate) fn has_word(update: bool, bits: u64, word: u64, number: usize) -> usize
+    requires { ⌜ number < 64 ⌝ }
+    ensures { λ r. ⌜ (r ≡ one (hasWord update bits word number)) × (r ≤ 1) ⌝ }
 {
     if update {
-        let forced = bit_in(&section[force..], number);
-        return bit_in(&section[map..], number) * (1 - forced);
+        return bit_of(bits, number);
     }
-    let column = column_in(word);
-    let bit = (word / 281_474_976_710_656 % 256) as usize;
-    one(is_present(column, bit, &section[map..]))
+    let bit = (word / 281_474_976_710_656 % 64) as usize;
+    1 - one(column_in(word).is_nullable()) * (1 - bit_of(bits, bit))
 }
 
 // The length that a prefix of one byte or four at `at` says, which is whole.
-fn length_at(section: &[u8], at: usize, size: usize) -> usize
+pub(crate) fn length_at(section: &[u8], at: usize, size: usize) -> usize
     requires { ⌜ PrefixThere (now section) at size ⌝ }
     ensures { λ r. ⌜ r ≡ intAt (now (section .entry)) at size ⌝ }
 {
@@ -65,6 +45,17 @@ fn length_at(section: &[u8], at: usize, size: usize) -> usize
     wide(section[at])
         + 256
             * (wide(section[at + 1]) + 256 * (wide(section[at + 2]) + 256 * wide(section[at + 3])))
+}
+
+// A length, or 0 where `has` is 0.
+fn kept(length: usize, has: usize) -> usize
+    requires { ⌜ has ≤ 1 ⌝ }
+    ensures { λ r. ⌜ r ≡ length * has ⌝ }
+{
+    if has == 0 {
+        return 0;
+    }
+    length
 }
 
 // The bytes that a field at `at` takes, by its word; none where `has` is 0. No branch depends on `has`.
@@ -78,7 +69,7 @@ pub(crate) fn span_at(word: u64, section: &[u8], at: usize, has: usize) -> Span
         if lacks(section.len(), at, size) {
             return Span::Bytes(size * has);
         }
-        let length = length_at(section, at, size) * has;
+        let length = kept(length_at(section, at, size), has);
         return match column.length_error(length) {
             LengthCheck::Refused(kind) => Span::Refused(kind),
             LengthCheck::Allowed => Span::Bytes(size * has + length),

@@ -1,20 +1,10 @@
--- Both maps are whole or not, and keep their rules or not.
+-- Both maps are whole or not; where their bits keep the rules, no column is asked.
 -- Assumes nothing.
-use Prim.Native.Nat.{ℕ, _+_, _*_, _/_, _≤_}
-use mathlib.Core.Path.{_≡_, sym, ap, _∙_}
-use mathlib.Core.List.{List}
-use mathlib.Core.Bool.{not}
+use Prim.Native.Nat.{_+_, _/_}
+use mathlib.Core.Path.{_≡_}
 use native.Mathlib.Omega.{arith}
-use lib.Dec.{eqb}
-use lib.ListN.{length}
-use Rattle.wire.specs.Read.{ok, toldMatch}
 use Rattle.wire.specs.Bits.{mapBytes}
-use Rattle.wire.proofs.Laws.{lacked-lt, enough-le}
-use Rattle.column.specs.declared.column.Column.{Column}
-use Rattle.row.specs.Updates.{updateBytes}
-use Rattle.row.proofs.UpdateLaws.{update-short}
-use Rattle.section.proofs.Slots.{inSlots, slot-bytes}
-use Rattle.section.proofs.Quiet.{rules-kept, rules-broken}
+use Rattle.section.proofs.Quiet.{update-opens, open-short, open-whole, open-kept, open-same, open-refused}
 use borrow.Author.Needs.{needs}
 use Rattle.section.proofs.data.open_update.Statement.{statement}
 use Rattle.section.proofs.data.open_update.Tie as tie
@@ -26,50 +16,78 @@ mul-lacks c =
     let pre = c .before .before .pre in
     let map-bytes = c .map-bytes in
     let m : map-bytes .result ≡ (args .count + 7) / 8 = map-bytes .ensures in
-    omega (arith, m, pre)
-
--- the columns of a call
-abbrev cs : tie.Start → List Column
-cs a = inSlots (a .args .slots .now) (a .args .first) (a .args .count)
-
--- the bytes of a map
-sized : (a : tie.After-map-bytes) → a .map-bytes .result ≡ updateBytes (cs (a .before .before))
-sized a = a .map-bytes .ensures ∙ sym (slot-bytes (a .before .before .args .slots .now) (a .before .before .args .first) (a .before .before .args .count))
-
--- both maps are whole
-whole : (a : tie.Else1) → a .before .before .before .before .args .at + 2 * a .before .before .map-bytes .result ≤ length (a .before .before .before .before .args .section .now)
-whole a = enough-le (length (a .before .before .before .before .args .section .now)) (a .before .before .before .before .args .at + 2 * a .before .before .map-bytes .result) (a .before .lacks .ensures) (a .if1 .left)
-
-fits : (a : tie.Else1) → a .before .before .before .before .args .at + 2 * updateBytes (cs (a .before .before .before .before)) ≤ length (a .before .before .before .before .args .section .now)
-fits a = omega (arith, whole a, sized (a .before .before))
+    omega (arith, m, pre .1)
 
 returns : tie.Need-returns
 returns c =
-    let a = c .before .before .before .before in
-    let l = lacked-lt (length (a .args .section .now)) (a .args .at + 2 * c .before .before .map-bytes .result) (c .before .lacks .ensures) (c .if1 .taken) in
-    sym (update-short (cs a) (a .args .section .now) (a .args .at) (omega (arith, l, sized (c .before .before))))
+    let args = c .before .before .before .before .args in
+    let map-bytes = c .before .before .map-bytes in
+    open-short (update-opens (args .slots .now) (args .first) (args .count) (args .section .now) (args .at) (map-bytes .ensures)) (c .before .lacks .ensures) (c .if1 .taken)
 
-check-maps-requires : tie.Need-check-maps-requires
-check-maps-requires c κs =
-    let pre = c .before .before .before .before .pre in
-    (pre .0, pre .1, ap (λ (n : ℕ). not (eqb n 0)) (pre .2), omega (arith, whole c, c .before .before .map-bytes .ensures))
+mul-t17 : tie.Need-mul-t17
+mul-t17 c =
+    let args = c .before .before .before .before .before .args in
+    let map-bytes = c .before .before .before .map-bytes in
+    let lacks = c .before .before .lacks in
+    omega (arith, map-bytes .ensures, open-whole (update-opens (args .slots .now) (args .first) (args .count) (args .section .now) (args .at) (map-bytes .ensures)) (lacks .ensures) (c .before .if1 .left))
 
-mul-t20 : tie.Need-mul-t20
-mul-t20 c = omega (arith, whole (c .before .before .before))
-
-add-t21 : tie.Need-add-t21
-add-t21 c = omega (arith, whole (c .before .before .before))
+add-t18 : tie.Need-add-t18
+add-t18 c =
+    let args = c .before .before .before .before .before .args in
+    let map-bytes = c .before .before .before .map-bytes in
+    let lacks = c .before .before .lacks in
+    omega (arith, map-bytes .ensures, open-whole (update-opens (args .slots .now) (args .first) (args .count) (args .section .now) (args .at) (map-bytes .ensures)) (lacks .ensures) (c .before .if1 .left))
 
 returns-2 : tie.Need-returns-2
 returns-2 c =
-    let a = c .before .before .before .before .before .before .before .before in
-    sym (rules-broken (cs a) (a .args .section .now) (a .args .at) (fits (c .before .before .before .before)) (sym (c .before .before .before .check-maps .ensures) ∙ ap toldMatch (c .before .e .given .1)))
+    let args = c .before .before .before .before .before .args in
+    let pre = c .before .before .before .before .before .pre in
+    let map-bytes = c .before .before .before .map-bytes in
+    let lacks = c .before .before .lacks in
+    open-kept (update-opens (args .slots .now) (args .first) (args .count) (args .section .now) (args .at) (map-bytes .ensures)) (lacks .ensures) (c .before .if1 .left) (pre .2 (c .if2 .taken))
+
+check-maps-requires : tie.Need-check-maps-requires
+check-maps-requires c κs =
+    let pre = c .before .before .before .before .before .pre in
+    let args = c .before .before .before .before .before .args in
+    let map-bytes = c .before .before .before .map-bytes in
+    let lacks = c .before .before .lacks in
+    (pre .0, pre .1, omega (arith, map-bytes .ensures, open-whole (update-opens (args .slots .now) (args .first) (args .count) (args .section .now) (args .at) (map-bytes .ensures)) (lacks .ensures) (c .before .if1 .left)))
+
+mul-t21 : tie.Need-mul-t21
+mul-t21 c =
+    let args = c .before .before .before .before .before .before .before .before .args in
+    let map-bytes = c .before .before .before .before .before .before .map-bytes in
+    let lacks = c .before .before .before .before .before .lacks in
+    let if1 = c .before .before .before .before .if1 in
+    omega (arith, map-bytes .ensures, open-whole (update-opens (args .slots .now) (args .first) (args .count) (args .section .now) (args .at) (map-bytes .ensures)) (lacks .ensures) (if1 .left))
+
+add-t22 : tie.Need-add-t22
+add-t22 c =
+    let args = c .before .before .before .before .before .before .before .before .args in
+    let map-bytes = c .before .before .before .before .before .before .map-bytes in
+    let lacks = c .before .before .before .before .before .lacks in
+    let if1 = c .before .before .before .before .if1 in
+    omega (arith, map-bytes .ensures, open-whole (update-opens (args .slots .now) (args .first) (args .count) (args .section .now) (args .at) (map-bytes .ensures)) (lacks .ensures) (if1 .left))
 
 returns-3 : tie.Need-returns-3
 returns-3 c =
-    let a = c .before .before .before .before .before .before .before in
-    sym (rules-kept (cs a) (a .args .section .now) (a .args .at) (fits (c .before .before .before)) (sym (c .before .before .check-maps .ensures) ∙ ap toldMatch (c .enum-told .given .1))
-    ∙ ap (λ (n : ℕ). ok (a .args .at + 2 * n)) (sym (sized (c .before .before .before .before .before))))
+    let args = c .before .before .before .before .before .before .before .before .before .args in
+    let map-bytes = c .before .before .before .before .before .before .before .map-bytes in
+    let lacks = c .before .before .before .before .before .before .lacks in
+    let if1 = c .before .before .before .before .before .if1 in
+    let check-maps = c .before .before .before .check-maps in
+    let e = c .before .e in
+    open-refused (update-opens (args .slots .now) (args .first) (args .count) (args .section .now) (args .at) (map-bytes .ensures)) (lacks .ensures) (if1 .left) (check-maps .result) (check-maps .ensures) (e .given .0 .0) (e .given .1)
+
+returns-4 : tie.Need-returns-4
+returns-4 c =
+    let args = c .before .before .before .before .before .before .before .before .args in
+    let map-bytes = c .before .before .before .before .before .before .map-bytes in
+    let lacks = c .before .before .before .before .before .lacks in
+    let if1 = c .before .before .before .before .if1 in
+    let check-maps = c .before .before .check-maps in
+    open-same (update-opens (args .slots .now) (args .first) (args .count) (args .section .now) (args .at) (map-bytes .ensures)) (lacks .ensures) (if1 .left) (check-maps .result) (check-maps .ensures) (c .enum-told .given .1)
 
 pub open-update-spec : {M : Type 1} → statement M
 open-update-spec =
@@ -79,10 +97,13 @@ open-update-spec =
     mul-lacks
     (λ c κs. search needs)
     returns
+    mul-t17
+    add-t18
+    returns-2
     check-maps-requires
     (λ c. search needs)
     (λ c. search needs)
-    mul-t20
-    add-t21
-    returns-2
-    returns-3)
+    mul-t21
+    add-t22
+    returns-3
+    returns-4)

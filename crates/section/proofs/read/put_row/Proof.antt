@@ -1,9 +1,8 @@
 -- Four numbers are stored where they fit.
 -- Assumes nothing.
-use Prim.Native.Nat.{ℕ, _+_, _*_, _<_, _≤_}
-use mathlib.Core.Path.{_≡_, refl, sym, ap, _∙_}
+use mathlib.Core.Path.{sym}
 use native.Mathlib.Omega.{arith}
-use lib.ListN.{length, length-set}
+use lib.ListN.{length-set}
 use Rattle.wire.proofs.Laws.{put-not}
 use Rattle.section.proofs.Laid.{put-four}
 use borrow.Author.Needs.{needs}

@@ -1,7 +1,7 @@
 -- The sizes, the schema file, and then its rows.
 -- Assumes nothing.
-use Prim.Native.Nat.{ℕ, _<_, _≤_}
-use mathlib.Core.Path.{_≡_, refl, sym, ap, _∙_}
+use Prim.Native.Nat.{ℕ}
+use mathlib.Core.Path.{_≡_, sym, ap, _∙_}
 use mathlib.Core.List.{List}
 use native.Mathlib.Omega.{arith}
 use lib.ListN.{length, replicate, length-replicate}
@@ -10,7 +10,6 @@ use Rattle.schema.specs.declared.reader.PlaceRead.{PlaceRead}
 use Rattle.schema.specs.Filling.{fillFile}
 use Rattle.schema.specs.Told.{placed, toldPlace}
 use Rattle.schema.proofs.Questions.{schemas-refused}
-use Rattle.section.specs.Table.{Listed}
 use Rattle.section.proofs.Sound.{schemas-of, sound-of}
 use Rattle.section.proofs.Listing.{listed-error, length-after, file-large, section-large, file-refused, file-read}
 use borrow.Author.Needs.{needs}

@@ -16,128 +16,101 @@ use Rattle.section.proofs.shapes.add_schema.Statement.{statement}
 use Rattle.section.proofs.shapes.add_schema.Tie as tie
 
 abbrev Inv-loop : tie.InvT-loop
-Inv-loop slots first count words₀ next steps₀ gap₀ bit₀ marked₀ chapters₀ i₀ words steps gap bit marked chapters i = Growing (map asColumn (entriesIn first count slots)) next words₀ words steps gap bit marked chapters i
+Inv-loop slots first count words₀ next steps₀ gap₀ bit₀ i₀ words steps gap bit i = Growing (map asColumn (entriesIn first count slots)) next words₀ words steps gap bit i
 
 abbrev μ-loop : tie.MeasureT-loop
-μ-loop slots first count words₀ next steps₀ gap₀ bit₀ marked₀ chapters₀ i₀ words steps gap bit marked chapters i = count - i
+μ-loop slots first count words₀ next steps₀ gap₀ bit₀ i₀ words steps gap bit i = count - i
 
 loop-holds : tie.Need-loop-holds Inv-loop μ-loop
 loop-holds c =
     let args = c .args in
     grow-start (map asColumn (entriesIn (args .first) (args .count) (args .slots .now))) (args .next) (args .words .now)
 
-add-marked : tie.Need-add-marked Inv-loop μ-loop
-add-marked c =
+word-of-requires : tie.Need-word-of-requires Inv-loop μ-loop
+word-of-requires c κs =
     let pre = c .before .before .before .before .before .before .pre in
     let loop = c .before .before .before .before .before .loop in
     let loop-test = c .before .before .before .before .loop-test in
-    omega (arith, pre, loop-test .taken, loop .inv .few-marked, c .one .ensures, one-most (c .before .is-marked .result))
-
-add-chapters : tie.Need-add-chapters Inv-loop μ-loop
-add-chapters c =
-    let pre = c .before .before .before .before .before .before .before .before .pre in
-    let loop = c .before .before .before .before .before .before .before .loop in
-    let loop-test = c .before .before .before .before .before .before .loop-test in
-    omega (arith, pre, loop-test .taken, loop .inv .few-chapters, c .one2 .ensures, one-most (c .before .is-chapter .result))
-
-word-of-requires : tie.Need-word-of-requires Inv-loop μ-loop
-word-of-requires c κs =
-    let pre = c .before .before .before .before .before .before .before .before .before .before .pre in
-    let loop = c .before .before .before .before .before .before .before .before .before .loop in
-    let loop-test = c .before .before .before .before .before .before .before .before .loop-test in
     (omega (arith, pre, loop-test .taken, loop .inv .few-gap), omega (arith, pre, loop-test .taken, loop .inv .few-bits))
 
 add-words : tie.Need-add-words Inv-loop μ-loop
 add-words c =
-    let pre = c .before .before .before .before .before .before .before .before .before .before .before .pre in
-    let loop = c .before .before .before .before .before .before .before .before .before .before .loop in
-    let loop-test = c .before .before .before .before .before .before .before .before .before .loop-test in
+    let pre = c .before .before .before .before .before .before .before .pre in
+    let loop = c .before .before .before .before .before .before .loop in
+    let loop-test = c .before .before .before .before .before .loop-test in
     omega (arith, pre, loop-test .taken, loop .inv .few-steps)
 
 mul-words : tie.Need-mul-words Inv-loop μ-loop
 mul-words c =
-    let pre = c .before .before .before .before .before .before .before .before .before .before .before .pre in
-    let loop = c .before .before .before .before .before .before .before .before .before .before .loop in
-    let loop-test = c .before .before .before .before .before .before .before .before .before .loop-test in
+    let pre = c .before .before .before .before .before .before .before .pre in
+    let loop = c .before .before .before .before .before .before .loop in
+    let loop-test = c .before .before .before .before .before .loop-test in
     omega (arith, pre, loop-test .taken, loop .inv .few-steps)
 
 element-write-words : tie.Need-element-write-words Inv-loop μ-loop
 element-write-words c =
-    let pre = c .before .before .before .before .before .before .before .before .before .before .before .pre in
-    let loop = c .before .before .before .before .before .before .before .before .before .before .loop in
-    let loop-test = c .before .before .before .before .before .before .before .before .before .loop-test in
+    let pre = c .before .before .before .before .before .before .before .pre in
+    let loop = c .before .before .before .before .before .before .loop in
+    let loop-test = c .before .before .before .before .before .loop-test in
     omega (arith, pre, loop-test .taken, loop .inv .few-steps)
 
 add-steps : tie.Need-add-steps Inv-loop μ-loop
 add-steps c =
-    let pre = c .before .before .before .before .before .before .before .before .before .before .before .pre in
-    let loop = c .before .before .before .before .before .before .before .before .before .before .loop in
-    let loop-test = c .before .before .before .before .before .before .before .before .before .loop-test in
+    let pre = c .before .before .before .before .before .before .before .pre in
+    let loop = c .before .before .before .before .before .before .loop in
+    let loop-test = c .before .before .before .before .before .loop-test in
     omega (arith, pre, loop-test .taken, loop .inv .few-steps)
 
 add-bit : tie.Need-add-bit Inv-loop μ-loop
 add-bit c =
-    let pre = c .before .before .before .before .before .before .before .before .before .before .before .before .before .pre in
-    let loop = c .before .before .before .before .before .before .before .before .before .before .before .before .loop in
-    let loop-test = c .before .before .before .before .before .before .before .before .before .before .before .loop-test in
-    omega (arith, pre, loop-test .taken, loop .inv .few-bits, c .one3 .ensures, one-most (c .before .is-nullable .result))
+    let pre = c .before .before .before .before .before .before .before .before .before .pre in
+    let loop = c .before .before .before .before .before .before .before .before .loop in
+    let loop-test = c .before .before .before .before .before .before .before .loop-test in
+    omega (arith, pre, loop-test .taken, loop .inv .few-bits, c .one .ensures, one-most (c .before .is-nullable .result))
 
 loop-again : tie.Need-loop-again Inv-loop μ-loop
 loop-again c =
-    let args = c .before .before .before .before .before .before .before .before .before .before .before .before .before .args in
-    let pre = c .before .before .before .before .before .before .before .before .before .before .before .before .before .pre in
-    let loop = c .before .before .before .before .before .before .before .before .before .before .before .before .loop in
-    let loop-test = c .before .before .before .before .before .before .before .before .before .before .before .loop-test in
-    let column-in = c .before .before .before .before .before .before .before .before .before .column-in in
-    let is-marked = c .before .before .before .before .before .before .before .before .is-marked in
-    let the-one = c .before .before .before .before .before .before .before .one in
-    let is-chapter = c .before .before .before .before .before .before .is-chapter in
-    let one2 = c .before .before .before .before .before .one2 in
+    let args = c .before .before .before .before .before .before .before .before .before .args in
+    let pre = c .before .before .before .before .before .before .before .before .before .pre in
+    let loop = c .before .before .before .before .before .before .before .before .loop in
+    let loop-test = c .before .before .before .before .before .before .before .loop-test in
+    let column-in = c .before .before .before .before .before .column-in in
     let is-stop = c .before .before .before .before .is-stop in
     let if1 = c .before .before .before .if1 in
     let word-of = c .before .before .word-of in
     let size = slots-length (args .first) (args .count) (args .slots .now) in
-    grow-stop (loop .inv) (omega (arith, size, loop-test .taken)) (column-in .result)
-    (slots-column (args .first) (args .count) (args .slots .now) (loop .i) (loop-test .taken) (column-in .ensures))
-    (c .one3 .ensures ∙ ap (λ (b : Bool). one b) (c .before .is-nullable .ensures)) (the-one .ensures ∙ ap (λ (b : Bool). one b) (is-marked .ensures))
-    (one2 .ensures ∙ ap (λ (b : Bool). one b) (is-chapter .ensures))
-    (sym (is-stop .ensures) ∙ if1 .taken) (getD (args .slots .now) (args .first + loop .i) 0) (column-in .ensures) (word-of .ensures)
+    grow-stop (loop .inv) (omega (arith, size, loop-test .taken)) (column-in .result) (slots-column (args .first) (args .count) (args .slots .now) (loop .i) (loop-test .taken) (column-in .ensures))
+    (c .one .ensures ∙ ap (λ (b : Bool). one b) (c .before .is-nullable .ensures)) (sym (is-stop .ensures) ∙ if1 .taken)
+    (getD (args .slots .now) (args .first + loop .i) 0) (column-in .ensures) (word-of .ensures)
     (omega (arith, pre, size)) (omega (arith, pre, loop-test .taken, loop .inv .few-steps, loop .inv .long))
 
 add-gap : tie.Need-add-gap Inv-loop μ-loop
 add-gap c =
-    let pre = c .before .before .before .before .before .before .before .before .before .before .before .pre in
-    let loop = c .before .before .before .before .before .before .before .before .before .before .loop in
-    let loop-test = c .before .before .before .before .before .before .before .before .before .loop-test in
-    let column-in = c .before .before .before .before .before .before .before .column-in in
+    let pre = c .before .before .before .before .before .before .before .pre in
+    let loop = c .before .before .before .before .before .before .loop in
+    let loop-test = c .before .before .before .before .before .loop-test in
+    let column-in = c .before .before .before .column-in in
     omega (arith, pre, loop-test .taken, loop .inv .few-gap, c .width .ensures, width-few (column-in .result))
 
 add-bit-2 : tie.Need-add-bit-2 Inv-loop μ-loop
 add-bit-2 c =
-    let pre = c .before .before .before .before .before .before .before .before .before .before .before .before .before .pre in
-    let loop = c .before .before .before .before .before .before .before .before .before .before .before .before .loop in
-    let loop-test = c .before .before .before .before .before .before .before .before .before .before .before .loop-test in
-    omega (arith, pre, loop-test .taken, loop .inv .few-bits, c .one4 .ensures, one-most (c .before .is-nullable2 .result))
+    let pre = c .before .before .before .before .before .before .before .before .before .pre in
+    let loop = c .before .before .before .before .before .before .before .before .loop in
+    let loop-test = c .before .before .before .before .before .before .before .loop-test in
+    omega (arith, pre, loop-test .taken, loop .inv .few-bits, c .one2 .ensures, one-most (c .before .is-nullable2 .result))
 
 loop-again-2 : tie.Need-loop-again-2 Inv-loop μ-loop
 loop-again-2 c =
-    let args = c .before .before .before .before .before .before .before .before .before .before .before .before .before .args in
-    let loop = c .before .before .before .before .before .before .before .before .before .before .before .before .loop in
-    let loop-test = c .before .before .before .before .before .before .before .before .before .before .before .loop-test in
-    let column-in = c .before .before .before .before .before .before .before .before .before .column-in in
-    let is-marked = c .before .before .before .before .before .before .before .before .is-marked in
-    let the-one = c .before .before .before .before .before .before .before .one in
-    let is-chapter = c .before .before .before .before .before .before .is-chapter in
-    let one2 = c .before .before .before .before .before .one2 in
+    let args = c .before .before .before .before .before .before .before .before .before .args in
+    let loop = c .before .before .before .before .before .before .before .before .loop in
+    let loop-test = c .before .before .before .before .before .before .before .loop-test in
+    let column-in = c .before .before .before .before .before .column-in in
     let is-stop = c .before .before .before .before .is-stop in
     let if1 = c .before .before .before .if1 in
     let width = c .before .before .width in
     let size = slots-length (args .first) (args .count) (args .slots .now) in
-    grow-plain (loop .inv) (omega (arith, size, loop-test .taken)) (column-in .result)
-    (slots-column (args .first) (args .count) (args .slots .now) (loop .i) (loop-test .taken) (column-in .ensures))
-    (c .one4 .ensures ∙ ap (λ (b : Bool). one b) (c .before .is-nullable2 .ensures)) (the-one .ensures ∙ ap (λ (b : Bool). one b) (is-marked .ensures))
-    (one2 .ensures ∙ ap (λ (b : Bool). one b) (is-chapter .ensures))
-    (sym (is-stop .ensures) ∙ if1 .left) (width .ensures)
+    grow-plain (loop .inv) (omega (arith, size, loop-test .taken)) (column-in .result) (slots-column (args .first) (args .count) (args .slots .now) (loop .i) (loop-test .taken) (column-in .ensures))
+    (c .one2 .ensures ∙ ap (λ (b : Bool). one b) (c .before .is-nullable2 .ensures)) (sym (is-stop .ensures) ∙ if1 .left) (width .ensures)
 
 form-of-requires : tie.Need-form-of-requires Inv-loop μ-loop
 form-of-requires c κs =
@@ -168,12 +141,6 @@ add-schema-spec =
     (λ c. search needs)
     (λ c. search needs)
     (λ c κs. search needs)
-    (λ c κs. search needs)
-    (λ c κs. search needs)
-    add-marked
-    (λ c κs. search needs)
-    (λ c κs. search needs)
-    add-chapters
     (λ c κs. search needs)
     word-of-requires
     add-words

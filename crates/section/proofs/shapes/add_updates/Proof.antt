@@ -20,7 +20,7 @@ loop-again c =
     let pre = c .before .before .before .before .pre in
     let loop = c .before .before .before .loop in
     let loop-test = c .before .before .loop-test in
-    updates-next pre (loop .inv) (loop-test .taken) (c .word-of .result) (c .word-of .ensures)
+    updates-next pre (loop .inv) (loop-test .taken) (c .update-word .result) (c .update-word .ensures)
 
 returns : tie.Need-returns Inv-loop μ-loop
 returns c = updates-end (c .before .loop .inv) (c .loop-test .left)

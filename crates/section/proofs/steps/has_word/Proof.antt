@@ -1,56 +1,50 @@
--- Both kinds of data ask the law of their maps.
+-- Both kinds of data ask a bit.
 -- Assumes nothing.
 use native.Mathlib.Omega.{arith}
-use Rattle.section.proofs.Spans.{word-carried, word-present}
+use Rattle.section.proofs.Spans.{bit-times, word-carried, word-present}
 use borrow.Author.Needs.{needs}
 use Rattle.section.proofs.steps.has_word.Statement.{statement}
 use Rattle.section.proofs.steps.has_word.Tie as tie
 
+returns : tie.Need-returns
+returns c =
+    let args = c .before .before .args in
+    let bit-of = c .bit-of in
+    word-carried (args .bits) (args .word) (args .number) (bit-of .ensures .1) (c .before .if1 .taken) (bit-of .ensures .0)
+
 sub-result : tie.Need-sub-result
-sub-result c =
-    let bit-in = c .before .before .bit-in in
-    omega (arith, bit-in .ensures .1)
+sub-result c = omega (arith, c .bit-of2 .ensures .1)
 
 mul-result : tie.Need-mul-result
 mul-result c =
-    let args = c .before .before .before .before .before .before .args in
-    let if1 = c .before .before .before .before .if1 in
-    let bit-in = c .before .before .bit-in in
-    let w = word-carried (args .section .now) (args .map) (args .force) (args .word) (args .number) (if1 .taken) (c .bit-in2 .ensures .0) (bit-in .ensures .0) in omega (arith, w .1)
+    let is-nullable = c .before .before .is-nullable in
+    omega (arith, bit-times (is-nullable .result) (c .bit-of2 .result) (c .before .one .ensures))
 
-returns : tie.Need-returns
-returns c =
-    let args = c .before .before .before .before .before .before .args in
-    let if1 = c .before .before .before .before .if1 in
-    let bit-in = c .before .before .bit-in in
-    word-carried (args .section .now) (args .map) (args .force) (args .word) (args .number) (if1 .taken) (c .bit-in2 .ensures .0) (bit-in .ensures .0)
+sub-result-2 : tie.Need-sub-result-2
+sub-result-2 c =
+    let is-nullable = c .before .before .is-nullable in
+    omega (arith, bit-times (is-nullable .result) (c .bit-of2 .result) (c .before .one .ensures))
 
 returns-2 : tie.Need-returns-2
 returns-2 c =
-    let args = c .before .before .before .before .before .before .args in
+    let args = c .before .before .before .before .before .args in
     let if1 = c .before .before .before .before .if1 in
     let column-in = c .before .before .before .column-in in
-    word-present (args .section .now) (args .map) (args .force) (args .word) (args .number) (column-in .ensures) (c .one .ensures) (if1 .left) (c .before .is-present .ensures)
+    let is-nullable = c .before .before .is-nullable in
+    let bit-of2 = c .bit-of2 in
+    word-present (args .bits) (args .word) (args .number) (bit-of2 .ensures .1) (if1 .left) (column-in .ensures) (is-nullable .ensures) (c .before .one .ensures) (bit-of2 .ensures .0)
 
 pub has-word-spec : {M : Type 1} → statement M
 has-word-spec =
     tie.close
     (tie.spec
-    (λ c. search needs)
-    (λ c. search needs)
-    (λ c. search needs)
     (λ c κs. search needs)
-    (λ c. search needs)
-    (λ c. search needs)
-    (λ c. search needs)
+    returns
+    (λ c κs. search needs)
+    (λ c κs. search needs)
+    (λ c κs. search needs)
     (λ c κs. search needs)
     sub-result
     mul-result
-    returns
-    (λ c κs. search needs)
-    (λ c. search needs)
-    (λ c. search needs)
-    (λ c. search needs)
-    (λ c κs. search needs)
-    (λ c κs. search needs)
+    sub-result-2
     returns-2)

@@ -2,8 +2,8 @@
 -- Assumes nothing.
 use mathlib.Core.Path.{sym, refl, _∙_}
 use borrow.Author.Needs.{needs}
-use Rattle.section.proofs.shapes.is_marked.Statement.{statement}
-use Rattle.section.proofs.shapes.is_marked.Tie as tie
+use Rattle.section.proofs.masks.is_marked.Statement.{statement}
+use Rattle.section.proofs.masks.is_marked.Tie as tie
 
 returns : tie.Need-returns
 returns c =
