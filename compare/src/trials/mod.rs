@@ -102,7 +102,7 @@ pub(crate) struct Run {
 /// Compares reading and archive on inputs that the seed determines.
 pub fn run(seed: u64, limit: Limit) -> Totals {
     let mut run = Run::default();
-    run_oversized(&mut run);
+    run_large(seed, &mut run);
     run.go_on(seed, limit);
     println!("seed {seed}");
     run.report()
@@ -111,7 +111,7 @@ pub fn run(seed: u64, limit: Limit) -> Totals {
 /// The same in several threads at a time. The first has this seed, each other one the next.
 pub fn soak(seed: u64, time: Duration, threads: usize) -> Totals {
     let mut all = Run::default();
-    run_oversized(&mut all);
+    run_large(seed, &mut all);
     let in_thread = |number: usize| {
         let mut run = Run::default();
         run.go_on(seed.wrapping_add(number as u64), Limit::Time(time));
@@ -127,6 +127,12 @@ pub fn soak(seed: u64, time: Duration, threads: usize) -> Totals {
     });
     println!("seed {seed}, {threads} threads");
     all.report()
+}
+
+/// Inputs around the size limit, and sections at the borders of what is noted of them.
+fn run_large(seed: u64, run: &mut Run) {
+    run_oversized(run);
+    sections::noted(&mut Random::new(seed), run);
 }
 
 fn any_trial(random: &mut Random) -> Trial {

@@ -6,7 +6,7 @@ use super::{complaints, damage, filled_complaints, schema, Call, Run};
 use crate::archive;
 use crate::generate::{self, Section, Shape};
 use crate::random::Random;
-use crate::reading::column::{BYTES, CHAPTER, TEXT};
+use crate::reading::column::{BYTES, CHAPTER, TEXT, WIDE_TEXT};
 use crate::reading::schema::{SchemaFile, MAX_FILE_COLUMNS};
 use crate::reading::section::{
     read_section, CHILD, CHILD_CHANGE, CHILD_DELETE, END, PARENT, ROW_NUMBERS,
@@ -43,18 +43,25 @@ const LONGEST: usize = 32_767;
 /// How many sections are made under one file.
 const SECTIONS: usize = 4;
 
-/// How many rows the archive holds on its way over a section; it goes over longer ones twice.
+/// How many rows the archive holds on its way over a section.
 pub(super) const HELD: usize = 256;
+
+/// Sections over this many bytes have the sizes of their elements noted, by which rows that are
+/// not held are filled in.
+const NOTED: usize = 16_384;
+
+/// The bytes in which sizes are noted.
+const NOTES: usize = 262_144;
 
 /// Sections under one file, each with a table, and at times with another file.
 pub(super) fn read_case(random: &mut Random, run: &mut Run) {
     let sound = sound_file(random);
     let schemas = SchemaFile::read(&sound, Input::Schema).expect("the file is sound");
     for _ in 0..SECTIONS {
-        let section = if random.one_in(256) {
-            long_section(random, &sound, &schemas)
-        } else {
-            Maker::new(&sound, &schemas).section(random)
+        let section = match random.below(1_024) {
+            0..=3 => long_section(random, &sound, &schemas),
+            4 => noted_section(random, &sound, &schemas),
+            _ => Maker::new(&sound, &schemas).section(random),
         };
         let mut file = sound.clone();
         match random.below(32) {
@@ -81,6 +88,113 @@ fn long_section(random: &mut Random, sound: &[u8], schemas: &SchemaFile) -> Vec<
         damage(random, &mut section);
     }
     section
+}
+
+/// A section whose sizes are noted, with more rows than are held, at times damaged.
+fn noted_section(random: &mut Random, sound: &[u8], schemas: &SchemaFile) -> Vec<u8> {
+    let mut section = Section::default();
+    let least = random.between(HELD + 1, 2 * HELD);
+    let mut rows = 0;
+    while rows < least || section.size() <= NOTED {
+        let number = random.below(schemas.schema_count());
+        section.add_row(random, sound, schemas, number);
+        rows += 1;
+    }
+    let (mut section, _) = section.end();
+    if random.one_in(3) {
+        damage(random, &mut section);
+    }
+    section
+}
+
+/// A section under `sizes_file` with elements of the sizes at which notes change their form: one
+/// byte under 255, three under 65,536, and none from there on if `longest` allows it.
+fn sizes_section(random: &mut Random, longest: usize) -> Vec<u8> {
+    let mut bytes = Vec::new();
+    let mut field = |bytes: &mut Vec<u8>, head: usize| {
+        let size = match random.below(40) {
+            0 if longest >= 65_534 => random.between(65_530, 65_539),
+            1..=12 => random.between(250, 260),
+            _ => random.between(head, 90),
+        };
+        let length = (size - head).min(65_534) / 2 * 2;
+        bytes.extend((length as u32).to_le_bytes());
+        bytes.resize(bytes.len() + length, 0x2A);
+    };
+    let mut rows = 0;
+    while rows <= HELD || bytes.len() <= NOTED {
+        match rows % 4 {
+            0 => {
+                bytes.push(PARENT);
+                field(&mut bytes, 5);
+            }
+            kind => {
+                bytes.push(CHILD);
+                bytes.extend(SIZES_CHILD.to_le_bytes());
+                field(&mut bytes, 9);
+                if kind > 1 {
+                    bytes.push(if kind == 2 {
+                        CHILD_CHANGE
+                    } else {
+                        CHILD_DELETE
+                    });
+                    bytes.extend(SIZES_CHILD.to_le_bytes());
+                }
+                if kind == 2 {
+                    bytes.extend([0x80, 0x00]);
+                    field(&mut bytes, 11);
+                }
+            }
+        }
+        rows += 1;
+    }
+    bytes.push(END);
+    bytes
+}
+
+/// The id of the child rows in `sizes_section`.
+const SIZES_CHILD: u32 = 0x0107;
+
+/// A parent with one wide text and a chapter of rows with one wide text.
+fn sizes_file() -> Vec<u8> {
+    let [wide, chapter] = [WIDE_TEXT, CHAPTER].map(u32::from);
+    let longest = LONGEST as u32;
+    generate::groups(&[
+        2,
+        wide,
+        0,
+        longest,
+        chapter,
+        0,
+        SIZES_CHILD,
+        1,
+        wide,
+        0,
+        longest,
+    ])
+}
+
+/// Sections with elements of the sizes at the borders of notes, and as many elements as can be
+/// noted, or a few more.
+pub(super) fn noted(random: &mut Random, run: &mut Run) {
+    let file = sizes_file();
+    for round in 0..40 {
+        let longest = if round % 4 == 0 { 65_534 } else { 300 };
+        let mut section = sizes_section(random, longest);
+        if round % 3 == 2 {
+            damage(random, &mut section);
+        }
+        let space = space(random, &file, &section);
+        let before: Vec<u32> = (0..space).map(|_| random.bits() as u32).collect();
+        read(&file, &section, &before, run);
+    }
+    let chapter = generate::groups(&[1, CHAPTER.into(), 0, 7, 1, TEXT.into(), 0, 1]);
+    for rows in NOTES - 6..NOTES + 2 {
+        let mut tokens = vec![PARENT; rows];
+        tokens.push(END);
+        let before: Vec<u32> = (0..(ROW_NUMBERS * rows + 2) as u32).map(|at| !at).collect();
+        read(&chapter, &tokens, &before, run);
+    }
 }
 
 /// A file that keeps the rules, at times one with many schemas.
@@ -377,5 +491,25 @@ mod tests {
         let rows = MAX_INPUT.div_ceil(FULL_ROW);
         let mut table = vec![0; ROW_NUMBERS * rows];
         assert_eq!(read_section(&file, &section, &mut table), Ok(rows));
+    }
+
+    #[test]
+    fn sections_of_all_sizes_are_sound() {
+        let mut random = Random::new(1);
+        for longest in [300, 65_534] {
+            let section = sizes_section(&mut random, longest);
+            let mut table = vec![0; ROW_NUMBERS * section.len()];
+            let rows = read_section(&sizes_file(), &section, &mut table).expect("it is sound");
+            assert!(rows > HELD && section.len() > NOTED);
+            let starts = table.chunks(ROW_NUMBERS).take(rows).map(|row| row[2]);
+            let gaps: Vec<u32> = starts
+                .clone()
+                .skip(1)
+                .zip(starts)
+                .map(|(b, a)| b - a)
+                .collect();
+            assert!(gaps.iter().any(|gap| *gap > 255), "no long element");
+            assert_eq!(gaps.iter().any(|gap| *gap > 65_535), longest > 300);
+        }
     }
 }
