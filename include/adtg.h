@@ -158,7 +158,7 @@ enum adtg_row {
 
 /* Reads a whole row section into a table, four numbers a row: its kind, its child id (0 for a parent), where its original data
  * start in the section, and where its update data start (0 but for a changed row). Numbers behind the last row stay as they were; an
- * error leaves the whole table.
+ * error leaves the whole table. The call takes about 290 KB of stack.
  * out: rows. */
 uint32_t adtg_read_section(const uint8_t *file, size_t file_length,
                            const uint8_t *section, size_t section_length,
