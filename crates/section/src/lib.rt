@@ -1,12 +1,14 @@
 // Row sections: the elements of a section one after the other, and the table of rows that they make.
-// Rows are read by words and forms that are made of the schemas once a call.
+// Rows are read by words, forms and masks that are made of the schemas once a call.
 
 mod children;
 mod data;
 mod heads;
 mod maps;
 mod masks;
+mod notes;
 pub mod read;
 mod shapes;
 mod steps;
+mod table;
 mod ways;

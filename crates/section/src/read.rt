@@ -1,29 +1,25 @@
 // The row section reader: a pass over a section, element by element and column by column, and the table of rows that it fills.
 ghost use mathlib.Core.Path.{_≡_};
-ghost use Prim.Native.Nat.{_+_, _*_, _≤_, _<_};
+ghost use Prim.Native.Nat.{_≤_};
 ghost use lib.ListN.{length};
-ghost use lib.Dec.{eqb};
-ghost use Rattle.wire.specs.Read.{pick};
-ghost use Rattle.wire.specs.Output.{put};
 ghost use Rattle.schema.specs.Table.{schemasIn};
-ghost use Rattle.grammar.specs.Grammar.{entry};
-ghost use Rattle.grammar.specs.Reader.{idAt};
 ghost use Rattle.section.specs.Shapes.{Sound, Shaped};
 ghost use Rattle.section.specs.Maps.{AllMasked};
-ghost use Rattle.section.specs.Table.{rowNumbers, rowsFitting, rowsRead, Listed};
-ghost use Rattle.section.specs.Sizes.{NotedAt, Accepted};
-ghost use Rattle.section.specs.Scan.{Scanned, Filled};
+ghost use Rattle.section.specs.Table.{rowsFitting, rowsRead, Listed};
+ghost use Rattle.section.specs.Scan.{Scanned};
 ghost use Rattle.section.specs.declared.read.RowsRead.the-variants as read;
 use crate::children::guesses;
 use crate::heads::Head;
 use crate::heads::head_at;
 use crate::masks::all_masks;
+use crate::notes::note;
 use crate::shapes::add_forms;
 use crate::shapes::add_updates;
 use crate::steps::Span;
 use crate::steps::has_word;
-use crate::steps::length_at;
 use crate::steps::span_at;
+use crate::table::fill;
+use crate::table::put_row;
 use crate::ways::Way;
 use crate::ways::way_over;
 use schema::reader::PlaceRead;
@@ -33,7 +29,6 @@ use wire::bytes::copy_numbers;
 use wire::error::Error;
 use wire::error::ErrorKind;
 use wire::error::Input;
-use wire::integer::wide;
 
 // A section of up to so many bytes has no sizes noted: to clear the notes would take as long as a second pass.
 const SHORT: usize = 16_384;
@@ -42,42 +37,6 @@ const SHORT: usize = 16_384;
 pub enum RowsRead {
     Rows(usize),
     Refused(Error),
-}
-
-// Writes row `i` into a table, where it has room for that row.
-fn put_row(table: &mut [u32], i: usize, kind: u32, id: u32, original: u32, update: u32)
-    requires { ⌜ i ≤ 16777216 ⌝ }
-    ensures { λ r. ⌜ now (table .exit) ≡ put (now (table .entry)) (4 * i) (rowNumbers (entry kind id original update)) ⌝ }
-{
-    let at = 4 * i;
-    if table.len() < at + 4 {
-        return;
-    }
-    table[at] = kind;
-    table[at + 1] = id;
-    table[at + 2] = original;
-    table[at + 3] = update;
-}
-
-// Notes the size of an element at `i`, and answers where the next one goes. What can't be noted makes the first size 0.
-fn note(sizes: &mut [u8], i: usize, size: usize) -> usize
-    requires { ⌜ (1 ≤ length (now sizes)) × (1 ≤ size) × (i ≤ length (now sizes)) × (length (now sizes) ≤ 16777216) ⌝ }
-    ensures { λ r. ⌜ NotedAt (now (sizes .entry)) (now (sizes .exit)) i size r × (r ≤ length (now (sizes .exit))) ⌝ }
-{
-    if i + 3 < sizes.len() {
-        if size < 255 {
-            sizes[i] = size as u8;
-            return i + 1;
-        }
-        if size < 65_536 {
-            sizes[i] = 255;
-            sizes[i + 1] = (size / 256) as u8;
-            sizes[i + 2] = (size % 256) as u8;
-            return i + 3;
-        }
-    }
-    sizes[0] = 0;
-    sizes.len()
 }
 
 // One pass over a section: how many rows it has, or the first error. Rows that the table has room for are written into it, and the sizes of
@@ -188,64 +147,6 @@ fn scan<'a>(
         }
     };
     answer
-}
-
-// The four bytes behind the one at `at` as a number; 0 where they are not whole.
-fn id_behind(section: &[u8], at: usize) -> usize
-    requires { ⌜ at ≤ 16777216 ⌝ }
-    ensures { λ r. ⌜ (r < 4294967296) × (at + 5 ≤ length (now (section .entry)) → r ≡ idAt (now (section .entry)) at) ⌝ }
-{
-    if section.len() < at + 5 {
-        return 0;
-    }
-    length_at(section, at + 1, 4)
-}
-
-// The first of two numbers, or the second where `second` is 1.
-fn chosen(first: usize, other: usize, second: usize) -> usize
-    ensures { λ r. ⌜ r ≡ pick (eqb second 0) first other ⌝ }
-{
-    if second == 0 {
-        return first;
-    }
-    other
-}
-
-// Fills the table with the rows of a section that was accepted, from size to size. No branch depends on which element it is.
-fn fill<'a>(section: &'a [u8], sizes: &'a [u8], table: &mut [u32])
-    requires { ⌜ Accepted (now section) (now sizes) × (length (now section) ≤ 16777216) × (length (now sizes) ≤ 16777216) ⌝ }
-    ensures { λ r. ⌜ Filled (now (section .entry)) (now (sizes .entry)) (now (table .entry)) (now (table .exit)) ⌝ }
-{
-    let mut at = 0;
-    let mut rows = 0;
-    let mut origin = 0;
-    let mut i = 0;
-    while section[at] != 0x0F {
-        let token = wide(section[at]);
-        let child = token / 128;
-        let kind = (token % 16 + 4 * child) / 4;
-        let start = at + 1 + 4 * child;
-        let id = chosen(0, id_behind(section, at), child);
-        let update = chosen(0, start, kind % 4 / 3);
-        origin = chosen(start, origin, kind / 3);
-        rows += 1 - kind / 3;
-        put_row(
-            table,
-            rows - 1,
-            kind as u32,
-            id as u32,
-            origin as u32,
-            update as u32,
-        );
-        let size = wide(sizes[i]);
-        if size < 255 {
-            at += size;
-            i += 1;
-        } else {
-            at += 256 * wide(sizes[i + 1]) + wide(sizes[i + 2]);
-            i += 3;
-        }
-    }
 }
 
 // The same error, about an input of a call with several.

@@ -4,8 +4,8 @@ use native.Mathlib.Omega.{arith}
 use lib.ListN.{length-set}
 use Rattle.section.proofs.Noting.{note-one, note-three, note-none}
 use borrow.Author.Needs.{needs}
-use Rattle.section.proofs.read.note.Statement.{statement}
-use Rattle.section.proofs.read.note.Tie as tie
+use Rattle.section.proofs.notes.note.Statement.{statement}
+use Rattle.section.proofs.notes.note.Tie as tie
 
 returns : tie.Need-returns
 returns c =

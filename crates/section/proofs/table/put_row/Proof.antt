@@ -6,8 +6,8 @@ use lib.ListN.{length-set}
 use Rattle.wire.proofs.Laws.{put-not}
 use Rattle.section.proofs.Laid.{put-four}
 use borrow.Author.Needs.{needs}
-use Rattle.section.proofs.read.put_row.Statement.{statement}
-use Rattle.section.proofs.read.put_row.Tie as tie
+use Rattle.section.proofs.table.put_row.Statement.{statement}
+use Rattle.section.proofs.table.put_row.Tie as tie
 
 returns : tie.Need-returns
 returns c = sym (put-not _ _ _ (c .if1 .taken))

@@ -7,8 +7,8 @@ use lib.Dec.{eqb}
 use Rattle.section.specs.Sizes.{Accepted, kindBy}
 use Rattle.section.proofs.Filling.{AtFill, Taken, fill-start, fill-inside, fill-done, fill-long, fill-taken, size-inside, row-one, row-three, fill-three, one-onward, three-onward, chosen-under}
 use borrow.Author.Needs.{needs}
-use Rattle.section.proofs.read.fill.Statement.{statement}
-use Rattle.section.proofs.read.fill.Tie as tie
+use Rattle.section.proofs.table.fill.Statement.{statement}
+use Rattle.section.proofs.table.fill.Tie as tie
 
 abbrev Inv-loop : tie.InvT-loop
 Inv-loop section sizes table₀ at₀ rows₀ origin₀ i₀ table at rows origin i = (a : Accepted section sizes) → AtFill section sizes a table₀ table at rows origin i

@@ -3,8 +3,8 @@
 use mathlib.Core.Path.{refl}
 use borrow.Author.Tests.{ne-eqb}
 use borrow.Author.Needs.{needs}
-use Rattle.section.proofs.read.chosen.Statement.{statement}
-use Rattle.section.proofs.read.chosen.Tie as tie
+use Rattle.section.proofs.table.chosen.Statement.{statement}
+use Rattle.section.proofs.table.chosen.Tie as tie
 
 returns : tie.Need-returns
 returns c = rw (c .if1 .taken) refl

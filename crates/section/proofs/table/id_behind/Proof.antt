@@ -5,8 +5,8 @@ use mathlib.Core.Logic.{inr}
 use native.Mathlib.Omega.{arith}
 use Rattle.section.proofs.Turns.{id-small}
 use borrow.Author.Needs.{needs}
-use Rattle.section.proofs.read.id_behind.Statement.{statement}
-use Rattle.section.proofs.read.id_behind.Tie as tie
+use Rattle.section.proofs.table.id_behind.Statement.{statement}
+use Rattle.section.proofs.table.id_behind.Tie as tie
 
 returns : tie.Need-returns
 returns c = ((omega arith), (λ h. absurd (omega (arith, h, c .if1 .taken))))
