@@ -30,7 +30,7 @@ use wire::error::Error;
 use wire::error::ErrorKind;
 use wire::error::Input;
 
-// A section of up to so many bytes has no sizes noted: to clear the notes would take as long as a second pass.
+// A section of up to so many bytes has no sizes noted: the rows of most are held, and to clear the notes takes time.
 const SHORT: usize = 16_384;
 
 // How many rows a section has, or why it is refused.
