@@ -1,3 +1,4 @@
+pub mod Exactly
 pub mod Examples
 pub mod Plans
 pub mod Sections
