@@ -4,3 +4,9 @@ pub mod Plans
 pub mod Sections
 pub mod Refusals
 pub mod Batches
+pub mod RowExactly
+pub mod FileExactly
+pub mod SectionExactly
+pub mod HeadExactly
+pub mod WriterExactly
+pub mod PlanExactly

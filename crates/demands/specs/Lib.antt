@@ -4,3 +4,9 @@ pub mod Sections
 pub mod Refusals
 pub mod Checks
 pub mod Batches
+pub mod RowFaults
+pub mod FileFaults
+pub mod SectionFaults
+pub mod HeadFaults
+pub mod WriterFaults
+pub mod PlanFaults
