@@ -3,9 +3,11 @@
 mod file;
 mod head;
 mod rows;
+mod sections;
 
 fn main() {
     head::run();
     file::run();
     rows::run();
+    sections::run();
 }
