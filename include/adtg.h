@@ -9,6 +9,17 @@
  *
  * A writer writes at the start of its output or table, a row writer from a place in its output on. It leaves all that lies
  * outside the piece; an error leaves all of it.
+ *
+ * Memory: what a call may write (an output, a table, spans, `out`) overlaps nothing else that the call is given, neither an
+ * input nor other memory to write. Everything that is promised stands on this. Inputs may overlap one another.
+ *
+ * Threads: a call has no state and keeps no pointer. Any number of threads may call at once, each with memory of its own to
+ * write. They may share inputs, as long as nobody writes these while a call runs.
+ *
+ * Stack: measured on x86-64 by c/stack.c and rounded up; arguments are included, a KB has 1,024 bytes. Where the C library's
+ * memcpy and memset are bound only when they are first called, that call takes some 3 KB more.
+ *     adtg_read_section: at most 290 KB
+ *     every other call: at most 10 KB
  */
 #ifndef ADTG_H
 #define ADTG_H
@@ -158,7 +169,7 @@ enum adtg_row {
 
 /* Reads a whole row section into a table, four numbers a row: its kind, its child id (0 for a parent), where its original data
  * start in the section, and where its update data start (0 but for a changed row). Numbers behind the last row stay as they were; an
- * error leaves the whole table. The call takes about 290 KB of stack.
+ * error leaves the whole table. Of all calls this one takes by far the most stack.
  * out: rows. */
 uint32_t adtg_read_section(const uint8_t *file, size_t file_length,
                            const uint8_t *section, size_t section_length,
