@@ -10,8 +10,9 @@
  * A writer writes at the start of its output or table, a row writer from a place in its output on. It leaves all that lies
  * outside the piece; an error leaves all of it.
  *
- * Memory: what a call may write (an output, a table, spans, `out`) overlaps nothing else that the call is given, neither an
- * input nor other memory to write. Everything that is promised stands on this. Inputs may overlap one another.
+ * Memory: what a call may write (an output, a table, spans, `out`, each in its whole length) must not overlap anything else
+ * that the call is given, neither an input nor other memory to write. What is promised stands on this. Inputs may overlap one
+ * another.
  *
  * Threads: a call has no state and keeps no pointer. Any number of threads may call at once, each with memory of its own to
  * write. They may share inputs, as long as nobody writes these while a call runs.
