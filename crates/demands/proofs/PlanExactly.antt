@@ -1,1 +1,330 @@
--- To be written.
+-- What is refused through a plan, whatever its numbers: opening, look-up, places, comparing, batches.
+-- Assumes nothing.
+use Prim.Native.Nat.{ℕ, zero, suc, _+_, _*_, _-_, _/_, _≤_, _<_}
+use mathlib.Core.Path.{_≡_, refl, sym, ap, _∙_}
+use mathlib.Core.List.{List, [], _∷_}
+use mathlib.Core.Bool.{Bool, true, false, not, true≢false}
+use mathlib.Core.Logic.{_↔_}
+use native.Mathlib.Omega.{arith}
+use lib.ListN.{length, drop}
+use lib.Dec.{leb, ltb, eqb}
+use borrow.Author.Tests.{leb-true, leb-false, le-leb, lt-leb, ltb-true, ltb-false, lt-ltb, eqb-true, eqb-false, eq-eqb, ne-eqb}
+use Rattle.wire.specs.declared.error.Input.{Input}
+use Rattle.wire.specs.declared.error.Input.the-variants as input
+use Rattle.wire.specs.Read.{Bytes, Read, ok, bad, _>>=_, pick, check, about, sized, whole, limit}
+use Rattle.wire.specs.Bits.{bitSet}
+use Rattle.wire.proofs.Pieces.{bad-ok, bind-ok}
+use Rattle.column.specs.declared.column.Column.{Column}
+use Rattle.column.specs.declared.field.Field.{Field}
+use Rattle.column.specs.Types.{variableKind, chapterKind}
+use Rattle.column.specs.Columns.{isVariable, isChapter, isNullable, isStop}
+use Rattle.column.specs.Fields.{bytesAt, variableAt, fieldAt}
+use Rattle.column.proofs.Laws.{field-variable, bytes-short, bytes-fit}
+use Rattle.column.proofs.Stops.{stop-variable}
+use Rattle.row.specs.Presence.{Mark, one, present}
+use Rattle.row.specs.Rows.{Place, place, past, reached, Answer, field, null, chapter}
+use Rattle.plan.specs.declared.plan.Plan.{Plan}
+use Rattle.plan.specs.Packed.{unpacked, gapIn, bitIn, widthIn}
+use Rattle.plan.specs.Plans.{plannedWord, plannedColumn, plannedMark, plannedGap, plannedCount, plannedMap, plannedMarked, stopsTo, fieldIn, passedVariable, passed, visit, visits, jumped, landed, unset, plannedKnown, plannedOpen, plannedAnswer, plannedLookUp, plannedRow, FixedPlace, noStops, fixedPlace}
+use Rattle.plan.specs.Handles.{openedRow}
+use Rattle.adtg.specs.Plans.{blank, planBeside, Checked}
+use Rattle.grammar.specs.Grammar.{Row}
+use Rattle.batch.specs.Spans.{ownerOf, startIn, isRow, Span, spanOf, moved, spanIn, spansIn, rowsOf, spansBy}
+use Rattle.plan.proofs.Laws.{variable-absent, variable-past, variable-bad, passed-variable, passed-fixed, visit-behind, visit-plain, visit-over}
+use Rattle.demands.specs.Checks.{Refusals, Silent, Never, Nothing, _then_, first, second, Exactly, Faults, Of, of, Lent, lent, Sizes, over, within, Short, short, Missing, missing, NoRoom, no-room}
+use Rattle.demands.specs.RowFaults.{FieldFault}
+use Rattle.demands.specs.PlanFaults.{PlanFault, differs, BitFault, this-bit, later-bit, PlanOpenFaults, StopFault, in-stop, behind-stop, HeldFault, held-variable, held-width, JumpFault, on-the-way, in-column, PlannedFaults, BatchFault, in-row, of-other, behind-row, foundSpans}
+use Rattle.demands.proofs.Exactly.{same-error, moved-error, ok-silent, exactly-ok, exactly-then, exactly-last, exactly-alike, exactly-about, about-then, about-last, exactly-check, exactly-whole, exactly-missing, exactly-room, exactly-size, exactly-sized, single-fault, over-iff, never-then, never-of}
+
+-- a reader of one input that is exact by the two ways of an if and only if
+exactly-single :
+    {A : Type 0} {F : Faults} (r : Read A) → ((code offset : ℕ) (name : Input) → r ≡ bad code offset name → F code offset × (name ≡ input.Single)) →
+    ((code offset : ℕ) → F code offset → r ≡ bad code offset input.Single) → Exactly r (Of input.Single F)
+exactly-single {F = F} r there back code offset name = ((λ e. given (there code offset name e)), (λ p. by p))
+  where
+    given : F code offset × (name ≡ input.Single) → Of input.Single F code offset name
+    given (p, z) = rw z (of p)
+
+    by : {name : Input} → Of input.Single F code offset name → r ≡ bad code offset name
+    by (of p) = back code offset p
+
+-- Places without a row.
+pub fixed-place-exactly : (p : Plan) (k : ℕ) → Exactly (fixedPlace p k) (Of input.Column (Missing (plannedCount p) k))
+unfolding fixedPlace plannedKnown
+fixed-place-exactly p k = exactly-last _ _ (exactly-about input.Column _ (exactly-missing (plannedCount p) k))
+
+-- The bits of chapters.
+exactly-unset : (row : Bytes) (bs : List ℕ) → Exactly (unset row bs) (Of input.Single (BitFault row bs))
+unfolding unset check
+exactly-unset row [] = exactly-single _ (λ c o i e. absurd (bad-ok (sym e))) (λ c o p. absurd (none p refl))
+  where
+    none : {bs : List ℕ} {c o : ℕ} → BitFault row bs c o → bs ≡ [] → ⊥
+    none (this-bit h) e = let z : _≡_ {A = ℕ} 0 1 = cc in omega arith
+    none (later-bit h p) e = let z : _≡_ {A = ℕ} 0 1 = cc in omega arith
+exactly-unset row (b ∷ bs) = exactly-single _ (λ c o i e. there (bitSet row b) refl e (exactly-unset row bs c o i .0)) (λ c o p. back p (exactly-unset row bs))
+  where
+    there :
+        (t : Bool) → bitSet row b ≡ t → {c o : ℕ} {i : Input} → (check (not t) 12 (b / 8) >>= λ _. unset row bs) ≡ bad c o i →
+        (unset row bs ≡ bad c o i → Of input.Single (BitFault row bs) c o i) → BitFault row (b ∷ bs) c o × (i ≡ input.Single)
+    there true t {c} {o} {i} e rest =
+        let x : 12 ≡ c = cc in
+        let y : b / 8 ≡ o = cc in
+        let z : i ≡ input.Single = cc in
+        (rw (← x, ← y) (this-bit t), z)
+    there false t {c} {o} {i} e rest = by (rest e)
+      where
+        by : {i : Input} → Of input.Single (BitFault row bs) c o i → BitFault row (b ∷ bs) c o × (i ≡ input.Single)
+        by (of p) = (later-bit t p, refl)
+
+    back : {c o : ℕ} → BitFault row (b ∷ bs) c o → Exactly (unset row bs) (Of input.Single (BitFault row bs)) → (check (not (bitSet row b)) 12 (b / 8) >>= λ _. unset row bs) ≡ bad c o input.Single
+    back (this-bit h) rest = rw h refl
+    back (later-bit h p) rest = rw h (rest _ _ input.Single .1 (of p))
+
+-- Opening a row.
+module _ (p : Plan) (row : Bytes) where
+  exactly-planned-open : Exactly (about input.Row (plannedOpen p row)) (PlanOpenFaults p row)
+  unfolding plannedOpen
+  exactly-planned-open =
+      about-then input.Row _ _ (exactly-about input.Row _ (exactly-whole row 0 (plannedMap p)))
+      (λ s _. about-last input.Row _ (λ (u : Unit {0}). s) (exactly-about input.Row _ (exactly-unset row (plannedMarked p))))
+
+  pub open-row-exactly : Exactly (openedRow p row) (Sizes (lent input.Row row ∷ []) then PlanOpenFaults p row)
+  unfolding openedRow
+  open-row-exactly = exactly-size input.Row row _ (λ _. exactly-sized exactly-planned-open)
+
+-- The way to a column.
+
+-- what is present is no chapter
+present-chapter : (row : Bytes) (m : Mark) → present row m ≡ true → isChapter (m .column) ≡ false
+unfolding present
+present-chapter row m t = go (isChapter (m .column)) t
+  where
+    go : (c : Bool) → pick c false (pick (isNullable (m .column)) (bitSet row (m .bit)) true) ≡ true → c ≡ false
+    go true e = absurd (true≢false (sym e))
+    go false e = refl
+
+module _ (exactly-field : (c : Column) (row : Bytes) (at : ℕ) → Exactly (fieldAt c row at) (Of input.Single (FieldFault c row at))) (p : Plan) (row : Bytes) where
+  -- a field of variable length
+  variable-there : (c : Column) (at : ℕ) → isVariable c ≡ true → {code offset : ℕ} {name : Input} → variableAt c row at ≡ bad code offset name → FieldFault c row at code offset × (name ≡ input.Single)
+  variable-there c at v e = single-fault (exactly-field c row at) (field-variable c row at v ∙ e)
+
+  variable-back : (c : Column) (at : ℕ) → isVariable c ≡ true → {code offset : ℕ} → FieldFault c row at code offset → variableAt c row at ≡ bad code offset input.Single
+  variable-back c at v f = sym (field-variable c row at v) ∙ exactly-field c row at _ _ input.Single .1 (of f)
+
+  module _ (k : ℕ) where
+    stop-there : {i : ℕ} {w : Place} {code offset : ℕ} {name : Input} → visit p row k i w ≡ bad code offset name → (is : List ℕ) → StopFault p row k (i ∷ is) w code offset × (name ≡ input.Single)
+    stop-there {i} {w} {code} {offset} {name} e is = by-number (ltb i k) refl
+      where
+        by-presence : i < k → isVariable (plannedColumn p i) ≡ true → (t : Bool) → present row (plannedMark p i) ≡ t →
+            passedVariable (plannedColumn p i) (bitIn (plannedWord p i)) row (place (w .at + plannedGap p i) (w .prefixes)) ≡ bad code offset name →
+            StopFault p row k (i ∷ is) w code offset × (name ≡ input.Single)
+        by-presence l v false t e = absurd (bad-ok (sym e ∙ variable-absent (plannedColumn p i) (bitIn (plannedWord p i)) row (place (w .at + plannedGap p i) (w .prefixes)) t))
+        by-presence l v true t e = by (variableAt (plannedColumn p i) row (w .at + plannedGap p i)) refl
+          where
+            by : (r : Read Field) → variableAt (plannedColumn p i) row (w .at + plannedGap p i) ≡ r → StopFault p row k (i ∷ is) w code offset × (name ≡ input.Single)
+            by (ok f) q =
+                absurd (bad-ok (sym e ∙ variable-past (plannedColumn p i) (bitIn (plannedWord p i)) row (place (w .at + plannedGap p i) (w .prefixes)) t q))
+            by (bad c o j) q =
+                let z : _≡_ {A = Read Place} (bad c o j) (bad code offset name) = sym (variable-bad (plannedColumn p i) (bitIn (plannedWord p i)) row (place (w .at + plannedGap p i) (w .prefixes)) t q) ∙ e in
+                let (f, n) = variable-there (plannedColumn p i) (w .at + plannedGap p i) v (q ∙ same-error z) in
+                (in-stop l v t f, n)
+
+        by-type : i < k → isStop (plannedColumn p i) ≡ true → (t : Bool) → isVariable (plannedColumn p i) ≡ t → StopFault p row k (i ∷ is) w code offset × (name ≡ input.Single)
+        by-type l s true v = by-presence l v (present row (plannedMark p i)) refl (sym (passed-variable (plannedWord p i) row (place (w .at + plannedGap p i) (w .prefixes)) v) ∙ sym (visit-over p row k i w l s refl) ∙ e)
+        by-type l s false v = absurd (bad-ok (sym e ∙ visit-over p row k i w l s refl ∙ passed-fixed (plannedWord p i) row (place (w .at + plannedGap p i) (w .prefixes)) v))
+
+        by-stop : i < k → (t : Bool) → isStop (plannedColumn p i) ≡ t → StopFault p row k (i ∷ is) w code offset × (name ≡ input.Single)
+        by-stop l true s = by-type l s (isVariable (plannedColumn p i)) refl
+        by-stop l false s = absurd (bad-ok (sym e ∙ visit-plain p row k i w l s))
+
+        by-number : (t : Bool) → ltb i k ≡ t → StopFault p row k (i ∷ is) w code offset × (name ≡ input.Single)
+        by-number true t = by-stop (ltb-true _ _ t) (isStop (plannedColumn p i)) refl
+        by-number false t = absurd (bad-ok (sym e ∙ visit-behind p row k i w (ltb-false _ _ t)))
+
+    visits-there : (is : List ℕ) (w : Place) {code offset : ℕ} {name : Input} → visits p row k is w ≡ bad code offset name → StopFault p row k is w code offset × (name ≡ input.Single)
+    unfolding visits
+    visits-there [] w e = absurd (bad-ok (sym e))
+    visits-there (i ∷ is) w {code} {offset} {name} e = by (visit p row k i w) refl e (λ v q. visits-there is v q)
+      where
+        by : (r : Read Place) → visit p row k i w ≡ r → (r >>= λ v. visits p row k is v) ≡ bad code offset name →
+            ((v : Place) → visits p row k is v ≡ bad code offset name → StopFault p row k is v code offset × (name ≡ input.Single)) →
+            StopFault p row k (i ∷ is) w code offset × (name ≡ input.Single)
+        by (ok v) q e rest = let (f, z) = rest v e in (behind-stop q f, z)
+        by (bad c o j) q e rest = stop-there (q ∙ e) is
+
+    visits-back : (is : List ℕ) (w : Place) {code offset : ℕ} → StopFault p row k is w code offset → visits p row k is w ≡ bad code offset input.Single
+    unfolding visits
+    visits-back is w (in-stop {i = i} l v t f) =
+        rw (visit-over p row k i w l (stop-variable (plannedColumn p i) v) refl ∙ passed-variable (plannedWord p i) row (place (w .at + plannedGap p i) (w .prefixes)) v
+        ∙ variable-bad (plannedColumn p i) (bitIn (plannedWord p i)) row (place (w .at + plannedGap p i) (w .prefixes)) t (variable-back (plannedColumn p i) (w .at + plannedGap p i) v f))
+        refl
+    visits-back is w (behind-stop {is = js} {v = v} q f) = rw q (visits-back js v f)
+
+    -- the field of the column
+    held-there : (n at : ℕ) {code offset : ℕ} {name : Input} → fieldIn n row at ≡ bad code offset name → HeldFault n row at code offset × (name ≡ input.Single)
+    unfolding fieldIn
+    held-there n at {code} {offset} {name} e = by (isVariable (unpacked n)) refl e
+      where
+        by : (t : Bool) → isVariable (unpacked n) ≡ t → pick t (variableAt (unpacked n) row at) (bytesAt row at (widthIn n) 0) ≡ bad code offset name →
+            HeldFault n row at code offset × (name ≡ input.Single)
+        by true v e = let (f, z) = variable-there (unpacked n) at v e in (held-variable v f, z)
+        by false v e = by-width (leb (at + widthIn n) (length row)) refl
+          where
+            by-width : (t : Bool) → leb (at + widthIn n) (length row) ≡ t → HeldFault n row at code offset × (name ≡ input.Single)
+            by-width true t = absurd (bad-ok (sym e ∙ bytes-fit row at (widthIn n) 0 (leb-true _ _ t)))
+            by-width false t =
+                let l : length row < at + widthIn n = leb-false _ _ t in
+                let q : _≡_ {A = Read Field} (bad 1 (length row) input.Single) (bad code offset name) = sym (bytes-short row at (widthIn n) 0 l) ∙ e in
+                let x : 1 ≡ code = cc in
+                let y : length row ≡ offset = cc in
+                let z : name ≡ input.Single = cc in
+                (rw (← x, ← y) (held-width v l), z)
+
+    held-back : (n at : ℕ) {code offset : ℕ} → HeldFault n row at code offset → fieldIn n row at ≡ bad code offset input.Single
+    unfolding fieldIn
+    held-back n at (held-variable v f) = rw v (variable-back (unpacked n) at v f)
+    held-back n at (held-width v l) = rw v (bytes-short row at (widthIn n) 0 l)
+
+    -- column k of a row that opens
+    exactly-planned-answer : Exactly (plannedAnswer p row k) (Of input.Single (JumpFault p row k))
+    unfolding plannedAnswer jumped landed
+    exactly-planned-answer = exactly-single _ (λ c o i e. there (isChapter (plannedColumn p k)) (present row (plannedMark p k)) refl e) (λ c o f. back f)
+      where
+        way : Read Answer
+        way =
+            (visits p row k (stopsTo p k) (place 0 0) >>= λ w. ok (place (w .at + plannedGap p k) (w .prefixes)))
+            >>= λ w. (fieldIn (plannedWord p k) row (w .at) >>= λ f. ok (reached w f)) >>= λ f. ok (field f)
+
+        by-field : {c o : ℕ} {i : Input} → present row (plannedMark p k) ≡ true → (w : Place) → visits p row k (stopsTo p k) (place 0 0) ≡ ok w → (r : Read Field) →
+            fieldIn (plannedWord p k) row (w .at + plannedGap p k) ≡ r →
+            ((r >>= λ f. ok (reached (place (w .at + plannedGap p k) (w .prefixes)) f)) >>= λ f. ok (field f)) ≡ bad c o i → JumpFault p row k c o × (i ≡ input.Single)
+        by-field t w q (ok f) g e = absurd (bad-ok (sym e))
+        by-field t w q (bad d u j) g e = let (f, z) = held-there (plannedWord p k) (w .at + plannedGap p k) (g ∙ same-error e) in (in-column t q f, z)
+
+        by-way : {c o : ℕ} {i : Input} → present row (plannedMark p k) ≡ true → (r : Read Place) → visits p row k (stopsTo p k) (place 0 0) ≡ r →
+            ((r >>= λ w. ok (place (w .at + plannedGap p k) (w .prefixes)))
+            >>= λ w. (fieldIn (plannedWord p k) row (w .at) >>= λ f. ok (reached w f)) >>= λ f. ok (field f))
+            ≡ bad c o i →
+            JumpFault p row k c o × (i ≡ input.Single)
+        by-way t (ok w) q e = by-field t w q (fieldIn (plannedWord p k) row (w .at + plannedGap p k)) refl e
+        by-way t (bad d u j) q e = let (f, z) = visits-there (stopsTo p k) (place 0 0) (q ∙ same-error e) in (on-the-way t f, z)
+
+        there : {c o : ℕ} {i : Input} → (t u : Bool) → present row (plannedMark p k) ≡ u → pick t (ok chapter) (pick u way (ok null)) ≡ bad c o i → JumpFault p row k c o × (i ≡ input.Single)
+        there true u q e = absurd (bad-ok (sym e))
+        there false false q e = absurd (bad-ok (sym e))
+        there false true q e = by-way q (visits p row k (stopsTo p k) (place 0 0)) refl e
+
+        back : {c o : ℕ} → JumpFault p row k c o → pick (isChapter (plannedColumn p k)) (ok chapter) (pick (present row (plannedMark p k)) way (ok null)) ≡ bad c o input.Single
+        back (on-the-way t f) = rw (present-chapter row (plannedMark p k) t, t, visits-back (stopsTo p k) (place 0 0) f) refl
+        back (in-column {w = w} t q f) = rw (present-chapter row (plannedMark p k) t, t, q, held-back (plannedWord p k) (w .at + plannedGap p k) f) refl
+
+    -- A look-up through any plan.
+    pub planned-exactly : Exactly (plannedRow p row k) (PlannedFaults p row k)
+    unfolding plannedRow plannedLookUp plannedKnown
+    planned-exactly =
+        exactly-size input.Row row _
+        (λ _. exactly-sized (exactly-then _ _ (exactly-about input.Column _ (exactly-missing (plannedCount p) k))
+        (λ _ _. exactly-then _ _ (exactly-planned-open p row) (λ _ _. exactly-about input.Row _ exactly-planned-answer))))
+
+-- Batches, by any look-up that is exact.
+module _ (look : Bytes → Read Answer) (refuses : Bytes → Refusals) (exact : (part : Bytes) → Exactly (look part) (refuses part)) (s : Bytes) where
+  module _ (owner : ℕ) where
+    rows-there : (rs : List Row) {code offset : ℕ} {name : Input} → spansIn look s owner rs ≡ bad code offset name → BatchFault refuses s owner rs code offset name
+    unfolding spansIn spanIn moved
+    rows-there [] e = absurd (bad-ok (sym e))
+    rows-there (r ∷ rs) {code} {offset} {name} e = by-owner (eqb (ownerOf r) owner) refl e (λ q. rows-there rs q)
+      where
+        at : ℕ
+        at = startIn s (r .original)
+
+        by-rest : (x : Span) (xs : Read (List Span)) → spansIn look s owner rs ≡ xs → Silent (refuses (drop at s)) → (xs >>= λ ys. ok (x ∷ ys)) ≡ bad code offset name →
+            (spansIn look s owner rs ≡ bad code offset name → BatchFault refuses s owner rs code offset name) → BatchFault refuses s owner (r ∷ rs) code offset name
+        by-rest x (ok ys) q z e rest = absurd (bad-ok (sym e))
+        by-rest x (bad c o n) q z e rest = behind-row (λ _. z) (rest (q ∙ e))
+
+        by-name : ownerOf r ≡ owner → (c o : ℕ) (n : Input) → refuses (drop at s) c o n → (t : Bool) → isRow n ≡ t →
+            (((pick {A = Read Answer} t (bad c (at + o) input.Section) (bad c o n)) >>= λ a. ok (spanOf at a)) >>= λ x. spansIn look s owner rs >>= λ xs. ok (x ∷ xs)) ≡ bad code offset name →
+            BatchFault refuses s owner (r ∷ rs) code offset name
+        by-name own c o n f true t e = moved-error (BatchFault refuses s owner (r ∷ rs)) e (in-row own t f)
+        by-name own c o n f false t e = moved-error (BatchFault refuses s owner (r ∷ rs)) e (of-other own t f)
+
+        by-look : ownerOf r ≡ owner → (a : Read Answer) → look (drop at s) ≡ a →
+            ((moved at a >>= λ a. ok (spanOf at a)) >>= λ x. spansIn look s owner rs >>= λ xs. ok (x ∷ xs)) ≡ bad code offset name →
+            (spansIn look s owner rs ≡ bad code offset name → BatchFault refuses s owner rs code offset name) → BatchFault refuses s owner (r ∷ rs) code offset name
+        by-look own (ok a) q e rest = by-rest (spanOf at a) (spansIn look s owner rs) refl (ok-silent a (exact (drop at s)) q) e rest
+        by-look own (bad c o n) q e rest = by-name own c o n (exact (drop at s) c o n .0 q) (isRow n) refl e
+
+        by-owner : (t : Bool) → eqb (ownerOf r) owner ≡ t →
+            pick t ((moved at (look (drop at s)) >>= λ a. ok (spanOf at a)) >>= λ x. spansIn look s owner rs >>= λ xs. ok (x ∷ xs)) (spansIn look s owner rs) ≡ bad code offset name →
+            (spansIn look s owner rs ≡ bad code offset name → BatchFault refuses s owner rs code offset name) → BatchFault refuses s owner (r ∷ rs) code offset name
+        by-owner true t e rest = by-look (eqb-true _ _ t) (look (drop at s)) refl e rest
+        by-owner false t e rest = behind-row (λ own. absurd (eqb-false _ _ t own)) (rest e)
+
+    rows-back : (rs : List Row) {code offset : ℕ} {name : Input} → BatchFault refuses s owner rs code offset name → spansIn look s owner rs ≡ bad code offset name
+    unfolding spansIn spanIn moved
+    rows-back rs (in-row {r = r} own t f) = rw (eq-eqb _ _ own, exact (drop (startIn s (r .original)) s) _ _ _ .1 f, t) refl
+    rows-back rs (of-other {r = r} own t f) = rw (eq-eqb _ _ own, exact (drop (startIn s (r .original)) s) _ _ _ .1 f, t) refl
+    rows-back rs (behind-row {r = r} {rs = qs} {code = code} {offset = offset} {name = name} quiet f) = by-owner (eqb (ownerOf r) owner) refl (rows-back qs f)
+      where
+        at : ℕ
+        at = startIn s (r .original)
+
+        by-look : ownerOf r ≡ owner → (a : Read Answer) → look (drop at s) ≡ a → spansIn look s owner qs ≡ bad code offset name →
+            ((moved at a >>= λ a. ok (spanOf at a)) >>= λ x. spansIn look s owner qs >>= λ xs. ok (x ∷ xs)) ≡ bad code offset name
+        by-look own (ok a) q e = rw e refl
+        by-look own (bad c o n) q e = absurd (quiet own c o n (exact (drop at s) c o n .0 q))
+
+        by-owner : (t : Bool) → eqb (ownerOf r) owner ≡ t → spansIn look s owner qs ≡ bad code offset name →
+            pick t ((moved at (look (drop at s)) >>= λ a. ok (spanOf at a)) >>= λ x. spansIn look s owner qs >>= λ xs. ok (x ∷ xs)) (spansIn look s owner qs) ≡ bad code offset name
+        by-owner true t e = by-look (eqb-true _ _ t) (look (drop at s)) refl e
+        by-owner false t e = e
+
+  pub batch-exactly :
+      (rows : List ℕ) (owner room : ℕ) →
+      Exactly (spansBy look s rows owner room)
+      (Sizes (lent input.Section s ∷ []) then BatchFault refuses s owner (rowsOf rows)
+      then Of input.Output (NoRoom (length (foundSpans (spansIn look s owner (rowsOf rows)))) (room / 2)))
+  unfolding spansBy
+  batch-exactly rows owner room =
+      exactly-size input.Section s _
+      (λ _. exactly-sized (exactly-then _ _ (λ c o n. (rows-there owner (rowsOf rows), rows-back owner (rowsOf rows)))
+      (λ xs e. rw e (exactly-last _ (λ (u : Unit {0}). xs) (exactly-about input.Output _ (spans-room (length xs) room))))))
+    where
+      spans-room : (n room : ℕ) → Exactly (check (leb (2 * n) room) 16 n) (Of input.Single (NoRoom n (room / 2)))
+      spans-room n room = exactly-check (leb (2 * n) room) 16 n (λ t. let l : room < 2 * n = leb-false _ _ t in no-room (omega arith)) told
+        where
+          told : (c o : ℕ) → NoRoom n (room / 2) c o → (leb (2 * n) room ≡ false) × (c ≡ 16) × (o ≡ n)
+          told c o (no-room h) = let l : room < 2 * n = omega arith in (lt-leb _ _ l, refl, refl)
+
+-- Comparing a plan with the one that a schema makes.
+pub check-plan-exactly :
+    {P : Refusals} (p : Plan) (made : Read Plan) (answer : Read (Unit {0})) → Checked p made answer → Exactly made P →
+    Exactly answer (P then Of input.Plan (PlanFault p (planBeside made)))
+check-plan-exactly {P} p (bad c o i) answer h exact code offset name = (
+  (λ e. first (moved-error P (sym (h .errors refl) ∙ e) (exact c o i .0 refl))),
+  (λ f. by f),
+)
+  where
+    by : {code offset : ℕ} {name : Input} → (P then Of input.Plan (PlanFault p blank)) code offset name → answer ≡ bad code offset name
+    by (first q) = h .errors (exact _ _ _ .1 q)
+    by (second z q) = absurd (z c o i (exact c o i .0 refl))
+check-plan-exactly {P} p (ok q) answer h exact code offset name = (
+  (λ e. moved-error (P then Of input.Plan (PlanFault p q)) (sym (h .differs q refl (other e)) ∙ e) (second (ok-silent q exact refl) (of (differs (other e))))),
+  (λ f. by f),
+)
+  where
+    other : answer ≡ bad code offset name → p ≡ q → ⊥
+    other e z = bad-ok (sym e ∙ h .equal (ap ok (sym z)))
+
+    told : {c o : ℕ} → PlanFault p q c o → (p ≡ q → ⊥) × (c ≡ 17) × (o ≡ 0)
+    told (differs d) = (d, refl, refl)
+
+    at-last : {c o : ℕ} {i : Input} → Of input.Plan (PlanFault p q) c o i → answer ≡ bad c o i
+    at-last {c} {o} (of d) =
+        let (z, x, y) = told d in
+        let e : answer ≡ bad 17 0 input.Plan = h .differs q refl z in
+        rw (x, y) e
+
+    by : {c o : ℕ} {i : Input} → (P then Of input.Plan (PlanFault p q)) c o i → answer ≡ bad c o i
+    by (first g) = absurd (bad-ok (sym (exact _ _ _ .1 g)))
+    by (second z g) = at-last g

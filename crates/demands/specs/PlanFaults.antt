@@ -66,7 +66,7 @@ pub data BatchFault (refuses : Bytes → Refusals) (s : Bytes) (owner : ℕ) : L
   behind-row : {r : Row} {rs : List Row} {code offset : ℕ} {name : Input} → (ownerOf r ≡ owner → Silent (refuses (drop (startIn s (r .original)) s))) →
       BatchFault refuses s owner rs code offset name → BatchFault refuses s owner (r ∷ rs) code offset name
 
--- the spans that were found; none beside an error
-abbrev pub spansIn : Read (List Span) → List Span
-spansIn (ok xs) = xs
-spansIn (bad code offset name) = []
+-- the spans that are found; none beside an error
+abbrev pub foundSpans : Read (List Span) → List Span
+foundSpans (ok xs) = xs
+foundSpans (bad code offset name) = []
