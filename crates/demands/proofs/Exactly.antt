@@ -13,7 +13,8 @@ use Rattle.wire.specs.declared.error.Input.{Input}
 use Rattle.wire.specs.declared.error.Input.the-variants as input
 use Rattle.wire.specs.Read.{Bytes, Read, ok, bad, _>>=_, check, about, limit, sizedBy, sized, whole}
 use Rattle.wire.proofs.Pieces.{bad-ok}
-use Rattle.demands.specs.Checks.{Refusals, Silent, Never, Nothing, _then_, first, second, Exactly, Faults, Of, of, Lent, lent, Sizes, over, within, Short, short, Missing, missing, NoRoom, no-room}
+use Rattle.grammar.proofs.RowErrors.{OfError, no-error, an-error, of-told}
+use Rattle.demands.specs.Checks.{Refusals, Silent, Never, Nothing, _then_, first, second, Where, so, Exactly, Refuses, Faults, Of, of, Lent, lent, Sizes, over, within, Short, short, Missing, missing, NoRoom, no-room}
 
 -- an error of another type of answer
 pub same-error : {A B : Type 0} {a b c d : ℕ} {i j : Input} → _≡_ {A = Read A} (bad a b i) (bad c d j) → _≡_ {A = Read B} (bad a b i) (bad c d j)
@@ -59,10 +60,21 @@ exactly-then {A} {B} {P = P} {Q = Q} (bad c o i) f h k code offset name = (
     by (first p) = same-error (h code offset name .1 p)
     by (second s q) = absurd (s c o i (h c o i .0 refl))
 
--- what follows always answers
+-- what follows always answers, where the first does
+pub exactly-answered :
+    {A B : Type 0} {P : Refusals} (r : Read A) (f : A → Read B) → Exactly r P → ((a : A) → r ≡ ok a → (b : B) × (f a ≡ ok b)) → Exactly (r >>= f) P
+exactly-answered (ok a) f h k code offset name =
+    let (b, x) = k a refl in
+    ((λ e. absurd (bad-ok (sym e ∙ x))), (λ p. absurd (bad-ok (sym (h code offset name .1 p)))))
+exactly-answered (bad c o i) f h k code offset name = ((λ e. h code offset name .0 (same-error e)), (λ p. same-error (h code offset name .1 p)))
+
 pub exactly-last : {A B : Type 0} {P : Refusals} (r : Read A) (f : A → B) → Exactly r P → Exactly (r >>= λ a. ok (f a)) P
-exactly-last (ok a) f h code offset name = ((λ e. absurd (bad-ok (sym e))), (λ p. absurd (bad-ok (sym (h code offset name .1 p)))))
-exactly-last (bad c o i) f h code offset name = ((λ e. h code offset name .0 (same-error e)), (λ p. same-error (h code offset name .1 p)))
+exactly-last r f h = exactly-answered r (λ a. ok (f a)) h (λ a _. (f a, refl))
+
+-- an answer made of another is refused as that one
+pub exactly-before : {A B : Type 0} {P : Refusals} (r : Read A) (f : A → B) → Exactly (r >>= λ a. ok (f a)) P → Exactly r P
+exactly-before (ok a) f h code offset name = ((λ e. absurd (bad-ok (sym e))), (λ p. absurd (bad-ok (sym (h code offset name .1 p)))))
+exactly-before (bad c o i) f h code offset name = ((λ e. h code offset name .0 (same-error e)), (λ p. same-error (h code offset name .1 p)))
 
 -- the same checks in other words
 pub exactly-alike : {A : Type 0} {P Q : Refusals} {r : Read A} → Exactly r P → ((code offset : ℕ) (name : Input) → P code offset name ↔ Q code offset name) → Exactly r Q
@@ -76,6 +88,37 @@ single-fault {F = F} {code = code} {offset = offset} {name = name} h e = by (h c
   where
     by : {name : Input} → Of input.Single F code offset name → F code offset × (name ≡ input.Single)
     by (of p) = (p, refl)
+
+-- both ways: each error is such a fault, and each such fault is the error
+pub exactly-ways :
+    {A : Type 0} {F : Faults} {r : Read A} → ((code offset : ℕ) (name : Input) → r ≡ bad code offset name → F code offset × (name ≡ input.Single)) →
+    ((code offset : ℕ) → F code offset → r ≡ bad code offset input.Single) → Exactly r (Of input.Single F)
+exactly-ways {F = F} {r = r} there back code offset name = ((λ e. given (there code offset name e)), (λ p. by p))
+  where
+    given : F code offset × (name ≡ input.Single) → Of input.Single F code offset name
+    given (p, z) = rw z (of p)
+
+    by : {name : Input} → Of input.Single F code offset name → r ≡ bad code offset name
+    by (of p) = back code offset p
+
+pub exactly-of : {A : Type 0} {F : Faults} {r : Read A} → OfError F r → ((code offset : ℕ) → F code offset → r ≡ bad code offset input.Single) → Exactly r (Of input.Single F)
+exactly-of h k = exactly-ways (λ _ _ _ e. of-told h e) k
+
+-- the first way alone
+pub of-exactly : {A : Type 0} {F : Faults} (r : Read A) → Exactly r (Of input.Single F) → OfError F r
+of-exactly (ok a) h = no-error
+of-exactly (bad code offset name) h = let (p, z) = single-fault h refl in rw z (an-error p)
+
+-- the name of a single input changes nothing
+pub alone : {A : Type 0} {F : Faults} {P : Refusals} {r : Read A} → OfError F r → Exactly (about input.Single r) P → Exactly r P
+unfolding about
+alone no-error h = h
+alone (an-error _) h = h
+
+-- what comes first has only errors of the whole
+pub of-first : {A B : Type 0} {F : Faults} (r : Read A) (f : A → Read B) → OfError F (r >>= f) → OfError F r
+of-first (ok a) f h = no-error
+of-first (bad c o input.Single) f (an-error h) = an-error h
 
 -- by another name it is the same fault
 pub exactly-about : {A : Type 0} {F : Faults} (name : Input) (r : Read A) → Exactly r (Of input.Single F) → Exactly (about name r) (Of name F)
@@ -114,6 +157,19 @@ pub about-last : {A B : Type 0} {P : Refusals} (name : Input) (r : Read A) (f : 
 unfolding about
 about-last name (ok a) f h = exactly-last (ok a) f h
 about-last name (bad c o i) f h = exactly-last (bad c o name) f h
+
+-- checks that are made only where a test holds
+pub exactly-where : {A : Type 0} {P : Refusals} {r : Read A} → Exactly r P → Exactly r (Where true P)
+exactly-where {P = P} h = exactly-alike h (λ code offset name. (so refl, (λ p. by p)))
+  where
+    by : {code offset : ℕ} {name : Input} → Where true P code offset name → P code offset name
+    by (so _ p) = p
+
+pub exactly-where-not : {A : Type 0} {P : Refusals} (a : A) → Exactly (ok a) (Where false P)
+exactly-where-not {P = P} a = exactly-alike (exactly-ok a) (λ code offset name. ((λ e. absurd e), (λ p. by p)))
+  where
+    by : {code offset : ℕ} {name : Input} → Where false P code offset name → ⊥
+    by (so t _) = true≢false (sym t)
 
 -- One check: it refuses exactly where its test fails, and then with this code at this offset.
 pub exactly-check :
@@ -229,3 +285,32 @@ never-of {n} {name} {F} h offset i p = by p
   where
     by : {offset : ℕ} {i : Input} → Of name F n offset i → ⊥
     by (of x) = h _ x
+
+pub never-where : {n : ℕ} {test : Bool} {P : Refusals} → Never n P → Never n (Where test P)
+never-where {n} {test} {P} h offset name p = by p
+  where
+    by : {offset : ℕ} {name : Input} → Where test P n offset name → ⊥
+    by (so _ p) = h _ _ p
+
+-- the codes of single checks
+pub short-codes : {s : Bytes} {at size code offset : ℕ} → Short s at size code offset → code ≡ 1
+short-codes (short _) = refl
+
+pub missing-codes : {count number code offset : ℕ} → Missing count number code offset → code ≡ 18
+missing-codes (missing _) = refl
+
+pub room-codes : {needed room code offset : ℕ} → NoRoom needed room code offset → code ≡ 16
+room-codes (no-room _) = refl
+
+pub never-short : {n : ℕ} {name : Input} {s : Bytes} {at size : ℕ} → (n ≡ 1 → ⊥) → Never n (Of name (Short s at size))
+never-short h = never-of (λ _ f. h (short-codes f))
+
+pub never-missing : {n : ℕ} {name : Input} {count number : ℕ} → (n ≡ 18 → ⊥) → Never n (Of name (Missing count number))
+never-missing h = never-of (λ _ f. h (missing-codes f))
+
+pub never-room : {n : ℕ} {name : Input} {needed room : ℕ} → (n ≡ 16 → ⊥) → Never n (Of name (NoRoom needed room))
+never-room h = never-of (λ _ f. h (room-codes f))
+
+-- A call refuses exactly so, where nothing behind the sizes gives 19.
+pub refuses : {A : Type 0} {l : List Lent} {Q : Refusals} {r : Read A} → Exactly r (Sizes l then Q) → Never 19 Q → Refuses r l Q
+refuses h never = record { exactly = h; over-limit = over-iff h never }

@@ -34,19 +34,8 @@ use Rattle.plan.proofs.Laws.{variable-absent, variable-past, variable-bad, pass
 use Rattle.demands.specs.Checks.{Refusals, Silent, Never, Nothing, _then_, first, second, Exactly, Faults, Of, of, Lent, lent, Sizes, over, within, Short, short, Missing, missing, NoRoom, no-room}
 use Rattle.demands.specs.RowFaults.{FieldFault}
 use Rattle.demands.specs.PlanFaults.{PlanFault, differs, BitFault, this-bit, later-bit, PlanOpenFaults, StopFault, in-stop, behind-stop, HeldFault, held-variable, held-width, JumpFault, on-the-way, in-column, PlannedFaults, BatchFault, in-row, of-other, behind-row, foundSpans}
-use Rattle.demands.proofs.Exactly.{same-error, moved-error, ok-silent, exactly-ok, exactly-then, exactly-last, exactly-alike, exactly-about, about-then, about-last, exactly-check, exactly-whole, exactly-missing, exactly-room, exactly-size, exactly-sized, single-fault, over-iff, never-then, never-of}
-
--- a reader of one input that is exact by the two ways of an if and only if
-exactly-single :
-    {A : Type 0} {F : Faults} (r : Read A) → ((code offset : ℕ) (name : Input) → r ≡ bad code offset name → F code offset × (name ≡ input.Single)) →
-    ((code offset : ℕ) → F code offset → r ≡ bad code offset input.Single) → Exactly r (Of input.Single F)
-exactly-single {F = F} r there back code offset name = ((λ e. given (there code offset name e)), (λ p. by p))
-  where
-    given : F code offset × (name ≡ input.Single) → Of input.Single F code offset name
-    given (p, z) = rw z (of p)
-
-    by : {name : Input} → Of input.Single F code offset name → r ≡ bad code offset name
-    by (of p) = back code offset p
+use Rattle.demands.proofs.RowExactly.{exactly-field}
+use Rattle.demands.proofs.Exactly.{exactly-ways, same-error, moved-error, ok-silent, exactly-ok, exactly-then, exactly-last, exactly-alike, exactly-about, about-then, about-last, exactly-check, exactly-whole, exactly-missing, exactly-room, exactly-size, exactly-sized, single-fault, over-iff, never-then, never-of}
 
 -- Places without a row.
 pub fixed-place-exactly : (p : Plan) (k : ℕ) → Exactly (fixedPlace p k) (Of input.Column (Missing (plannedCount p) k))
@@ -56,12 +45,12 @@ fixed-place-exactly p k = exactly-last _ _ (exactly-about input.Column _ (exactl
 -- The bits of chapters.
 exactly-unset : (row : Bytes) (bs : List ℕ) → Exactly (unset row bs) (Of input.Single (BitFault row bs))
 unfolding unset check
-exactly-unset row [] = exactly-single _ (λ c o i e. absurd (bad-ok (sym e))) (λ c o p. absurd (none p refl))
+exactly-unset row [] = exactly-ways (λ c o i e. absurd (bad-ok (sym e))) (λ c o p. absurd (none p refl))
   where
     none : {bs : List ℕ} {c o : ℕ} → BitFault row bs c o → bs ≡ [] → ⊥
     none (this-bit h) e = let z : _≡_ {A = ℕ} 0 1 = cc in omega arith
     none (later-bit h p) e = let z : _≡_ {A = ℕ} 0 1 = cc in omega arith
-exactly-unset row (b ∷ bs) = exactly-single _ (λ c o i e. there (bitSet row b) refl e (exactly-unset row bs c o i .0)) (λ c o p. back p (exactly-unset row bs))
+exactly-unset row (b ∷ bs) = exactly-ways (λ c o i e. there (bitSet row b) refl e (exactly-unset row bs c o i .0)) (λ c o p. back p (exactly-unset row bs))
   where
     there :
         (t : Bool) → bitSet row b ≡ t → {c o : ℕ} {i : Input} → (check (not t) 12 (b / 8) >>= λ _. unset row bs) ≡ bad c o i →
@@ -103,7 +92,7 @@ present-chapter row m t = go (isChapter (m .column)) t
     go true e = absurd (true≢false (sym e))
     go false e = refl
 
-module _ (exactly-field : (c : Column) (row : Bytes) (at : ℕ) → Exactly (fieldAt c row at) (Of input.Single (FieldFault c row at))) (p : Plan) (row : Bytes) where
+module _ (p : Plan) (row : Bytes) where
   -- a field of variable length
   variable-there : (c : Column) (at : ℕ) → isVariable c ≡ true → {code offset : ℕ} {name : Input} → variableAt c row at ≡ bad code offset name → FieldFault c row at code offset × (name ≡ input.Single)
   variable-there c at v e = single-fault (exactly-field c row at) (field-variable c row at v ∙ e)
@@ -188,7 +177,7 @@ module _ (exactly-field : (c : Column) (row : Bytes) (at : ℕ) → Exactly (fie
     -- column k of a row that opens
     exactly-planned-answer : Exactly (plannedAnswer p row k) (Of input.Single (JumpFault p row k))
     unfolding plannedAnswer jumped landed
-    exactly-planned-answer = exactly-single _ (λ c o i e. there (isChapter (plannedColumn p k)) (present row (plannedMark p k)) refl e) (λ c o f. back f)
+    exactly-planned-answer = exactly-ways (λ c o i e. there (isChapter (plannedColumn p k)) (present row (plannedMark p k)) refl e) (λ c o f. back f)
       where
         way : Read Answer
         way =

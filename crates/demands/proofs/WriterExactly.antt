@@ -4,7 +4,7 @@ use Prim.Native.Nat.{ℕ, zero, suc, _+_, _*_, _-_, _%_, _^_, _≤_, _<_}
 use mathlib.Core.Path.{_≡_, refl, sym, ap, _∙_}
 use mathlib.Core.List.{List, [], _∷_}
 use mathlib.Core.Bool.{Bool, true, false, true≢false}
-use mathlib.Core.Logic.{_↔_}
+use mathlib.Core.Logic.{_↔_, ⊎-elim}
 use native.Mathlib.Omega.{arith}
 use lib.ListN.{length}
 use lib.Dec.{leb, ltb, eqb}
@@ -26,7 +26,8 @@ use Rattle.encode.specs.Writers.{lengthStands, inOriginal, inUpdate, entriesSta
 use Rattle.demands.specs.Checks.{Refusals, Silent, Never, Nothing, _then_, first, second, Exactly, Faults, Of, of, Missing, missing, NoRoom, no-room}
 use Rattle.demands.specs.RowFaults.{LengthFault, too-long, too-wide, odd}
 use Rattle.demands.specs.WriterFaults.{CountFault, not-one-each, NoEntry, no-entry, CantStand, not-nullable, wrong-width, wrong-length, over-prefix, unchanged-there, chapter-value, chapter-null, EntryFault, this-entry, later-entry, WriteFaults}
-use Rattle.demands.proofs.Exactly.{exactly-ok, exactly-then, exactly-last, exactly-alike, exactly-about, exactly-check, exactly-missing, exactly-room, same-error, moved-error, never-then, never-of}
+use Rattle.demands.proofs.Exactly.{exactly-then, exactly-last, exactly-about, exactly-check, exactly-missing, exactly-room, moved-error, never-then, never-of, never-missing, never-room}
+use Rattle.demands.proofs.RowExactly.{length-fault, length-either}
 
 -- 18: the entries.
 
@@ -72,49 +73,25 @@ exactly-entries numbers values n =
 
 -- 20: an entry in its column.
 
--- a length that the reader refuses
-pub length-fault : (c : Column) (n : ℕ) → isVariable c ≡ true → (LengthFault c n ↔ (eqb (lengthError c n) 0 ≡ false))
-unfolding lengthError
-length-fault c n v = (λ f. there f, λ e. back (kind c) refl v e)
-  where
-    there : LengthFault c n → eqb (lengthErrorOf (kind c) (c .maximum) n) 0 ≡ false
-    there (too-long k h) = rw (k, lt-leb _ _ h) refl
-    there (too-wide k h) = rw (k, lt-leb _ _ h) refl
-    there (odd k h) = rw k (go (leb n (2 * c .maximum)))
-      where
-        go : (t : Bool) → eqb (pick t (pick (eqb (n % 2) 0) 0 14) 14) 0 ≡ false
-        go true = rw h refl
-        go false = refl
-
-    variable : (t : Bool) → leb n (c .maximum) ≡ t → kind c ≡ Variable → eqb (pick t 0 14) 0 ≡ false → LengthFault c n
-    variable true t k e = absurd (true≢false e)
-    variable false t k e = too-long k (leb-false _ _ t)
-
-    wide : (t u : Bool) → leb n (2 * c .maximum) ≡ t → eqb (n % 2) 0 ≡ u → kind c ≡ Wide → eqb (pick t (pick u 0 14) 14) 0 ≡ false → LengthFault c n
-    wide true true t u k e = absurd (true≢false e)
-    wide true false t u k e = let d : (n % 2 ≡ 0 → ⊥) = eqb-false _ _ u in odd k (omega arith)
-    wide false u t x k e = too-wide k (leb-false _ _ t)
-
-    back : (k : Kind) → kind c ≡ k → variableKind k ≡ true → eqb (lengthErrorOf k (c .maximum) n) 0 ≡ false → LengthFault c n
-    back (Fixed w) k v e = absurd (true≢false (sym v))
-    back Variable k v e = variable (leb n (c .maximum)) refl k e
-    back Wide k v e = wide (leb n (2 * c .maximum)) (eqb (n % 2) 0) refl refl k e
-    back Chapter k v e = absurd (true≢false (sym v))
-    back Unknown k v e = absurd (true≢false (sym v))
-
 module _ (update : Bool) (c : Column) where
   -- a value of these bytes
   value-stands : (v : Bytes) → (CantStand update c (value v) ↔ (lengthStands c (length v) ≡ false))
   unfolding lengthStands
   value-stands v = (λ f. there f, λ e. back (isChapter c) (isVariable c) refl refl e)
     where
+      refused-length : LengthFault c (length v) → lengthError c (length v) ≡ 0 → ⊥
+      refused-length d z = let y : lengthError c (length v) ≡ 14 = length-fault c (length v) d in omega arith
+
+      allowed-not : (lengthError c (length v) ≡ 0 → ⊥) → LengthFault c (length v)
+      allowed-not z = ⊎-elim (λ y. absurd (z y)) (λ d. d) (length-either c (length v))
+
       there : CantStand update c (value v) → lengthStands c (length v) ≡ false
       there (wrong-width h w d) = rw (h, w, ne-eqb _ _ d) refl
       there (wrong-length w d) = go (isChapter c)
         where
           go : (t : Bool) → pick t false (pick (isVariable c) (pick (eqb (lengthError c (length v)) 0) (ltb (length v) (256 ^ prefixSize c)) false) (eqb (length v) (width c))) ≡ false
           go true = refl
-          go false = rw (w, length-fault c (length v) w .0 d) refl
+          go false = rw (w, ne-eqb _ _ (refused-length d)) refl
       there (over-prefix w l) = go (isChapter c) (eqb (lengthError c (length v)) 0)
         where
           go : (t u : Bool) → pick t false (pick (isVariable c) (pick u (ltb (length v) (256 ^ prefixSize c)) false) (eqb (length v) (width c))) ≡ false
@@ -126,7 +103,7 @@ module _ (update : Bool) (c : Column) where
       by-length : isVariable c ≡ true → (t u : Bool) → eqb (lengthError c (length v)) 0 ≡ t → ltb (length v) (256 ^ prefixSize c) ≡ u → pick t u false ≡ false → CantStand update c (value v)
       by-length w true true t u e = absurd (true≢false e)
       by-length w true false t u e = over-prefix w (ltb-false _ _ u)
-      by-length w false u t x e = wrong-length w (length-fault c (length v) w .1 t)
+      by-length w false u t x e = wrong-length w (allowed-not (eqb-false _ _ t))
 
       back : (t u : Bool) → isChapter c ≡ t → isVariable c ≡ u →
           pick t false (pick u (pick (eqb (lengthError c (length v)) 0) (ltb (length v) (256 ^ prefixSize c)) false) (eqb (length v) (width c))) ≡ false →
@@ -259,19 +236,16 @@ entry-code : {update : Bool} {k code offset : ℕ} {cs : List Column} {es : List
 entry-code (this-entry h) = refl
 entry-code (later-entry h p) = entry-code p
 
-pub write-never-19 : (update : Bool) (cs : List Column) (numbers : List ℕ) (values : Bytes) (size place : ℕ) → Never 19 (WriteFaults update cs numbers values size place)
-write-never-19 update cs numbers values size place =
-    never-then (never-of (λ o p. absurd (a p refl)))
-    (never-then (never-of (λ o p. absurd (b p refl))) (never-then (never-of (λ o p. absurd (d p refl))) (never-then (never-of (λ o p. let z : 19 ≡ 20 = entry-code p in omega arith)) (never-of (λ o p. absurd (r p refl))))))
-  where
-    a : {c o : ℕ} → Missing (suc size) place c o → c ≡ 19 → ⊥
-    a (missing h) e = omega arith
+count-code : {numbers : List ℕ} {n code offset : ℕ} → CountFault numbers n code offset → code ≡ 18
+count-code (not-one-each h) = refl
 
-    b : {c o : ℕ} → CountFault numbers (length cs) c o → c ≡ 19 → ⊥
-    b (not-one-each h) e = omega arith
+no-entry-code : {numbers : List ℕ} {values : Bytes} {n code offset : ℕ} → NoEntry numbers values n code offset → code ≡ 18
+no-entry-code (no-entry l h) = refl
 
-    d : {c o : ℕ} → NoEntry numbers values (length cs) c o → c ≡ 19 → ⊥
-    d (no-entry l h) e = omega arith
-
-    r : {c o n m : ℕ} → NoRoom n m c o → c ≡ 19 → ⊥
-    r (no-room h) e = omega arith
+pub never-written :
+    (update : Bool) (cs : List Column) (numbers : List ℕ) (values : Bytes) (size place : ℕ) {n : ℕ} → (n ≡ 16 → ⊥) → (n ≡ 18 → ⊥) → (n ≡ 20 → ⊥) →
+    Never n (WriteFaults update cs numbers values size place)
+never-written update cs numbers values size place a b c =
+    never-then (never-missing b)
+    (never-then (never-of (λ _ f. b (count-code f)))
+    (never-then (never-of (λ _ f. b (no-entry-code f))) (never-then (never-of (λ _ f. c (entry-code f))) (never-room a))))

@@ -5,6 +5,7 @@
 use Prim.Native.Nat.{ℕ, _+_, _≤_, _<_}
 use mathlib.Core.Path.{_≡_}
 use mathlib.Core.List.{List, [], _∷_}
+use mathlib.Core.Bool.{Bool, true}
 use mathlib.Core.Logic.{_↔_}
 use lib.ListN.{length}
 use Rattle.wire.specs.declared.error.Input.{Input}
@@ -31,6 +32,10 @@ infixr 20 _then_
 pub data _then_ (P Q : Refusals) : (code offset : ℕ) → Input → Type 0 where
   first : {code offset : ℕ} {name : Input} → P code offset name → (P then Q) code offset name
   second : {code offset : ℕ} {name : Input} → Silent P → Q code offset name → (P then Q) code offset name
+
+-- checks that are made only where a test holds
+pub data Where (test : Bool) (P : Refusals) : (code offset : ℕ) → Input → Type 0 where
+  so : {code offset : ℕ} {name : Input} → test ≡ true → P code offset name → Where test P code offset name
 
 -- A call answers a refusal exactly when its checks give it.
 abbrev pub Exactly : {A : Type 0} → Read A → Refusals → Type 0
@@ -68,3 +73,8 @@ pub data Missing (count number : ℕ) : (code offset : ℕ) → Type 0 where
 -- 16: the room is too small; the offset is what is needed
 pub data NoRoom (needed room : ℕ) : (code offset : ℕ) → Type 0 where
   no-room : room < needed → NoRoom needed room 16 needed
+
+-- What a call refuses: exactly what its checks give, the sizes of these inputs first; and 19 exactly when one of them is over the limit.
+pub record Refuses {A : Type 0} (call : Read A) (inputs : List Lent) (checks : Refusals) : Type 0 where
+  pub exactly : Exactly call (Sizes inputs then checks)
+  pub over-limit : (offset : ℕ) (name : Input) → call ≡ bad 19 offset name ↔ Sizes inputs 19 offset name

@@ -17,7 +17,7 @@ use Rattle.column.specs.Columns.{kind, width, isVariable, prefixSize}
 use Rattle.column.specs.Fields.{fieldAt}
 use Rattle.row.specs.Presence.{Mark, presenceBytes, marks, markOf, present, chapterPresent}
 use Rattle.row.specs.Updates.{numbered, updateBytes, chapterMarked, forceBroken, carriedIn}
-use Rattle.demands.specs.Checks.{Refusals, _then_, Of, Short, Missing}
+use Rattle.demands.specs.Checks.{Refusals, _then_, Where, Of, Short, Missing}
 
 -- the first of the columns whose bit breaks a rule
 pub data FirstBroken (broken : Mark → Bool) : List Mark → Mark → Type 0 where
@@ -83,10 +83,6 @@ UpdateFaults name cs row at =
 -- a look-up in update data: there is a column k (18), and the update data in full
 abbrev pub LookUpdateFaults : List Column → Bytes → ℕ → Refusals
 LookUpdateFaults cs update k = Of input.Column (Missing (length cs) k) then UpdateFaults input.Update cs update 0
-
--- checks that are made only where a test holds
-pub data Where (test : Bool) (P : Refusals) : (code offset : ℕ) → Input → Type 0 where
-  so : {code offset : ℕ} {name : Input} → test ≡ true → P code offset name → Where test P code offset name
 
 -- the current value: the update data first, and in full; then the row, where they leave the column as it is
 abbrev pub CurrentFaults : List Column → (row update : Bytes) → ℕ → Refusals
