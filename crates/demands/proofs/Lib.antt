@@ -10,3 +10,4 @@ pub mod SectionExactly
 pub mod HeadExactly
 pub mod WriterExactly
 pub mod PlanExactly
+pub mod Trips

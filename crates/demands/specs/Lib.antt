@@ -10,3 +10,4 @@ pub mod SectionFaults
 pub mod HeadFaults
 pub mod WriterFaults
 pub mod PlanFaults
+pub mod Trips

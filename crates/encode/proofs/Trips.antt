@@ -18,11 +18,20 @@ use Rattle.encode.specs.Writers.{inOriginal, inUpdate, entriesIn, writeO
 use Rattle.encode.specs.Trips.{Says, says-value, says-null, says-chapter, SaysUpdate, says-new, says-forced, says-unchanged, says-chapter-unchanged, numbersOf, numbersOfUpdate, readOriginal, readUpdate, ReservedZero, UpdateReservedZero}
 use Rattle.encode.proofs.Originals as original
 use Rattle.encode.proofs.UpdateData as update
-use Rattle.encode.proofs.Written.{entries-length, writing-ok, Gives, gives-value, rewrites}
+use Rattle.encode.proofs.Written.{entries-length, writing-ok, writing-fits, Gives, gives-value, rewrites}
 
 -- Each column of what was written reads back as its entry, whatever follows; it ends where it does, and its reserved bits are 0.
 
 module _ (cs : List Column) (numbers : List ℕ) (values : Bytes) (size place : ℕ) (row : Bytes) where
+  -- what is written has room behind the place
+  pub original-fits : writeOriginal cs numbers values size place ≡ ok row → place + length row ≤ size
+  unfolding writeOriginal
+  original-fits h = writing-fits inOriginal originalBytes cs numbers values size place row h
+
+  pub update-fits : writeUpdate cs numbers values size place ≡ ok row → place + length row ≤ size
+  unfolding writeUpdate
+  update-fits h = writing-fits inUpdate updateData cs numbers values size place row h
+
   module _ (h : writeOriginal cs numbers values size place ≡ ok row) (r : Bytes) where
     original-made : original.Made cs (entriesIn (length cs) numbers values) (row ++ r) (length row)
     unfolding writeOriginal

@@ -8,11 +8,11 @@ use native.Mathlib.Omega.{arith}
 use lib.ListN.{length, take, getD, length-append, List·getD-append}
 use lib.Seq.{getD-append-add, ext-getD, length-take-le}
 use lib.Dec.{leb, eqb}
-use borrow.Author.Tests.{le-leb, eq-eqb}
+use borrow.Author.Tests.{leb-true, le-leb, eq-eqb}
 use Rattle.wire.specs.declared.error.Input.the-variants as input
 use Rattle.wire.specs.Read.{Bytes, ok, check, about, cut}
 use Rattle.wire.proofs.Laws.{fitting-fits}
-use Rattle.wire.proofs.Pieces.{bind-ok, about-ok, fitting-ok}
+use Rattle.wire.proofs.Pieces.{bind-ok, check-ok, about-ok, fitting-ok}
 use Rattle.column.specs.declared.column.Column.{Column}
 use Rattle.encode.specs.Entries.{Entry, value, null, Given, given, valueKind, givenAt, givensFrom, isEntry, areEntries, entryOf, entriesOf}
 use Rattle.encode.specs.Writers.{entriesStand, entriesIn, writing}
@@ -25,7 +25,8 @@ unfolding entriesOf givensFrom
 entries-length values zero i numbers = refl
 entries-length values (suc n) i numbers = ap suc (entries-length values n (suc i) numbers)
 
-entries-at :
+-- the entry of column k
+pub entries-at :
     (values : Bytes) (n i : ℕ) (numbers : List ℕ) (k : ℕ) → k < n → getD (entriesOf values (givensFrom n i numbers)) k null ≡ entryOf values (givenAt numbers (i + k))
 unfolding entriesOf givensFrom
 entries-at values zero i numbers k h = absurd (omega arith)
@@ -46,15 +47,27 @@ module _ (stands : Column → Entry → Bool) (encode : List Column → List Ent
   abbrev entries : List Entry
   entries = entriesIn (length cs) numbers values
 
-  -- what is written is the row of entries that can stand
-  pub writing-ok : (row : Bytes) → writing stands encode cs numbers values size place ≡ ok row → (u : Unit {0}) × (entriesStand stands 0 cs entries ≡ ok u) × (encode cs entries ≡ row)
+  -- what is written, where each check passed
+  writing-told :
+      (row : Bytes) → writing stands encode cs numbers values size place ≡ ok row →
+      (u : Unit {0}) × (place ≤ size) × (entriesStand stands 0 cs entries ≡ ok u) × (length (encode cs entries) ≤ size - place) × (encode cs entries ≡ row)
   unfolding writing
-  writing-ok row h =
+  writing-told row h =
       let (u₁, t₁, r₁) = bind-ok (about input.Place (check (leb place size) 18 0)) _ row h in
       let (u₂, t₂, r₂) = bind-ok (about input.Entries (check (eqb (length numbers) (3 * length cs)) 18 0)) _ row r₁ in
       let (u₃, t₃, r₃) = bind-ok (about input.Entries (check (areEntries values (givensFrom (length cs) 0 numbers)) 18 0)) _ row r₂ in
       let (u₄, t₄, r₄) = bind-ok (about input.Entries (entriesStand stands 0 cs entries)) _ row r₃ in
-      (u₄, about-ok input.Entries _ u₄ t₄, fitting-ok (encode cs entries) (size - place) row r₄ .1)
+      let p : place ≤ size = leb-true _ _ (check-ok _ _ _ u₁ (about-ok input.Place _ u₁ t₁)) in
+      let (f, e) = fitting-ok (encode cs entries) (size - place) row r₄ in
+      (u₄, p, about-ok input.Entries _ u₄ t₄, f, e)
+
+  -- it is the row of entries that can stand
+  pub writing-ok : (row : Bytes) → writing stands encode cs numbers values size place ≡ ok row → (u : Unit {0}) × (entriesStand stands 0 cs entries ≡ ok u) × (encode cs entries ≡ row)
+  writing-ok row h = let (u, p, s, f, e) = writing-told row h in (u, s, e)
+
+  -- and it fits behind the place
+  pub writing-fits : (row : Bytes) → writing stands encode cs numbers values size place ≡ ok row → place + length row ≤ size
+  writing-fits row h = let (u, p, s, f, e) = writing-told row h in omega (arith, p, f, ap length e)
 
   -- the row of entries that can stand is written, where it has room
   writing-made :
