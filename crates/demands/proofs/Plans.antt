@@ -100,11 +100,11 @@ module _ (file other : Bytes) (number second : ℕ) (cs ds : List Column) (bytes
 
 -- The premises are met: S and T are bytes, and each of their schemas makes a plan.
 
-small : Bytes → Bool
+unfoldable pub small : Bytes → Bool
 small [] = true
 small (x ∷ xs) = pick (ltb x 256) (small xs) false
 
-small-bytes : (s : Bytes) → small s ≡ true → AreBytes s
+pub small-bytes : (s : Bytes) → small s ≡ true → AreBytes s
 unfolding small
 small-bytes [] e i = omega arith
 small-bytes (x ∷ xs) e i = go (ltb x 256) refl (small-bytes xs) e i
@@ -122,7 +122,7 @@ pub T-bytes : AreBytes T
 unfolding small
 T-bytes = small-bytes T refl
 
-abbrev column : (code flags maximum : ℕ) → Column
+abbrev pub column : (code flags maximum : ℕ) → Column
 column code flags maximum = record { code = code; flags = flags; maximum = maximum }
 
 pub S-plan : planIn S 0 ≡ ok (planOf (column 0x03 0 0 ∷ column 0x82 1 10 ∷ column 0x11 1 0 ∷ []))

@@ -25,23 +25,28 @@ use Rattle.adtg.specs.Writers.{writeOriginalIn, writeUpdateIn}
 abbrev pub laid : (out : Bytes) (place : ℕ) (piece : Bytes) → Bytes
 laid out place piece = take place out ++ piece ++ drop (place + length piece) out
 
--- What an output holds after each writer, by the writer's contract (`Wrote`, `WroteAt`), and a table after its numbers are listed (`Lists`).
-
+-- What an output holds after each writer, as the contracts have it (`Wrote`, `WroteAt`, `Lists`).
+-- after the writer of a header
 abbrev pub headerOutput : (major minor order unicode : ℕ) (out : Bytes) → Bytes
 headerOutput major minor order unicode out = outputAfter (headerWritten major minor order unicode (length out)) out
 
+-- of handler options
 abbrev pub optionsOutput : (first second third : Bytes) (async : ℕ) (out : Bytes) → Bytes
 optionsOutput first second third async out = outputAfter (optionsWritten first second third async (length out)) out
 
+-- of a schema file
 abbrev pub fileOutput : (numbers : List ℕ) (out : Bytes) → Bytes
 fileOutput numbers out = outputAfter (fileWritten numbers (length out)) out
 
+-- a table after the numbers of a schema file are listed
 abbrev pub numbersTable : (file : Bytes) (table : List ℕ) → List ℕ
 numbersTable file table = outputAfter (numbersListed file (length table)) table
 
+-- after the writer of an original row
 abbrev pub originalOutput : (file : Bytes) (number : ℕ) (entries : List ℕ) (values : Bytes) (place : ℕ) (out : Bytes) → Bytes
 originalOutput file number entries values place out = outputWith (writeOriginalIn file number entries values (length out) place) place out
 
+-- of update data
 abbrev pub updateOutput : (file : Bytes) (number : ℕ) (entries : List ℕ) (values : Bytes) (place : ℕ) (out : Bytes) → Bytes
 updateOutput file number entries values place out = outputWith (writeUpdateIn file number entries values (length out) place) place out
 
@@ -55,7 +60,7 @@ UpdateSays look cs entries values row = (k : ℕ) → k < length cs → SaysUpda
 
 -- The premises there: the schema of this number in a valid file has these columns; the writer accepts, and writes this row; what the output
 -- holds from the place on is within the limit of a look-up's input.
-pub record Wrote (file : Bytes) (number : ℕ) (cs : List Column) (written : Read Bytes) (row : Bytes) (place : ℕ) (out : Bytes) : Type 0 where
+pub record Accepted (file : Bytes) (number : ℕ) (cs : List Column) (written : Read Bytes) (row : Bytes) (place : ℕ) (out : Bytes) : Type 0 where
   pub columns : columnsOf file number ≡ ok cs
   pub accepts : written ≡ ok row
   pub within : length (drop place out) ≤ limit
@@ -64,8 +69,13 @@ pub record Wrote (file : Bytes) (number : ℕ) (cs : List Column) (written : Rea
 abbrev pub originalRead : (file : Bytes) (number count : ℕ) (row : Bytes) → List ℕ
 originalRead file number count row = numbersFrom (λ (k : ℕ). numbersOf (lookUpIn file number row k)) count 0
 
+-- off update data
 abbrev pub updateRead : (file : Bytes) (number count : ℕ) (update : Bytes) → List ℕ
 updateRead file number count update = numbersFrom (λ (k : ℕ). numbersOfUpdate (lookUpdateIn file number update k)) count 0
+
+-- Each of these numbers is within the limit, and so fits the 32 bits in which a writer takes it.
+abbrev pub Within : List ℕ → Type 0
+Within numbers = (i : ℕ) → getD numbers i 0 ≤ limit
 
 -- The premises back: the schema of this number in a valid file has these columns; under it the row is accepted, and ends at `end`; its
 -- reserved bits are 0.
