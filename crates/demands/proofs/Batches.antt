@@ -42,14 +42,13 @@ use Rattle.grammar.proofs.Usable.{RowAt, Usable, parent-row, unchanged-row, cha
 use Rattle.section.specs.Table.{tableNumbers, rowsRead, tableAfter}
 use Rattle.batch.specs.Spans.{rowsFrom, rowsOf, parents, ownerOf, startIn, Span, span, nullMark, chapterMark, spanOf, isRow, moved, spanIn, spansIn, spansBy, planned, spansFound}
 use Rattle.batch.proofs.Alike.{batch-alike}
-use Rattle.batch.proofs.Places.{RowErrors, no-error, in-row, of-column, row-errors}
 use Rattle.adtg.specs.Plans as adtg
 use Rattle.adtg.specs.Plans.{planIn}
 use Rattle.adtg.specs.Rows.{lookUpIn}
 use Rattle.adtg.proofs.Selected.{asks-columns, plan-columns}
 use Rattle.demands.specs.Examples.{T, sectionT}
 use Rattle.demands.specs.Sections.{Given, listing}
-use Rattle.demands.specs.Batches.{walked, owned, Owner, parent-rows, child-rows, SpansOf, no-row, a-row, Lies, lies, is-null, is-chapter, BatchError, in-section, no-column, no-room}
+use Rattle.demands.specs.Batches.{walked, owned, Owner, parent-rows, child-rows, SpansOf, no-row, a-row, Lies, lies, is-null, is-chapter}
 use Rattle.demands.proofs.Plans.{plan-route-is-walk}
 use Rattle.demands.proofs.Sections.{accepted-iff-split, split-listed, length-numbers}
 
@@ -90,7 +89,7 @@ batch-row-by-row look s table owner room xs e =
     let z : ys ≡ xs = ok-ok k in
     rw (← z) (spans-each look s owner (rowsOf table) ys q)
 
--- Through any plan at all, what is found lies in the section, and so does the place of an error.
+-- Through any plan at all, what is found lies in the section.
 
 module _ (p : Plan) (s : Bytes) (column start : ℕ) where
   span-lies : (x : Span) → spanIn (planned p column) s start ≡ ok x → Lies s x
@@ -115,94 +114,12 @@ module _ (p : Plan) (s : Bytes) (column start : ℕ) where
       go (ok chapter) q e = let z : span chapterMark chapterMark ≡ x = ok-ok e in rw (← z) is-chapter
       go (bad c o i) q e = absurd (refusal (isRow i) c o i e)
 
-  span-error : (code offset : ℕ) (i : Input) → spanIn (planned p column) s start ≡ bad code offset i → BatchError s code offset i
-  unfolding spanIn moved
-  span-error code offset i e = go (row-errors (drop (startIn s start) s) p column) e
-    where
-      go : {r : Read Answer} → RowErrors (length (drop (startIn s start) s)) r →
-          (moved (startIn s start) r >>= λ (a : Answer). ok (spanOf (startIn s start) a)) ≡ bad code offset i → BatchError s code offset i
-      go no-error e = absurd (bad-ok (sym e))
-      go (in-row {offset = o} h) e =
-          let n : length (drop (startIn s start) s) ≡ length s - startIn s start = length-drop (startIn s start) s in
-          let z : startIn s start + o ≡ offset = cc in
-          let y : input.Section ≡ i = cc in
-          let l : offset ≤ length s = omega arith in
-          rw (← y) (in-section l)
-      go of-column e =
-          let x : 18 ≡ code = cc in
-          let z : 0 ≡ offset = cc in
-          let y : input.Column ≡ i = cc in
-          rw (← x, ← z, ← y) no-column
-
 spans-lie : (p : Plan) (s : Bytes) (column : ℕ) {rs : List Row} {xs : List Span} → SpansOf (planned p column) s rs xs → Each (Lies s) xs
 spans-lie p s column no-row = each-end
 spans-lie p s column (a-row {r = r} {x = x} q d) = each-next (span-lies p s column (r .original) x q) (spans-lie p s column d)
 
 pub batch-inside : (p : Plan) (s : Bytes) (table : List ℕ) (owner column room : ℕ) (xs : List Span) → spansFound p s table owner column room ≡ ok xs → Each (Lies s) xs
 batch-inside p s table owner column room xs e = spans-lie p s column (batch-row-by-row (planned p column) s table owner room xs e)
-
--- an error of another type of answer
-same-error : {A B : Type 0} {a b c d : ℕ} {i j : Input} → _≡_ {A = Read A} (bad a b i) (bad c d j) → _≡_ {A = Read B} (bad a b i) (bad c d j)
-same-error {a = a} {b = b} {c = c} {d = d} {i = i} {j = j} e =
-    let x : a ≡ c = cc in
-    let y : b ≡ d = cc in
-    let z : i ≡ j = cc in
-    cc
-
-module _ (p : Plan) (s : Bytes) (column owner code offset : ℕ) (i : Input) where
-  spans-error : (rs : List Row) → spansIn (planned p column) s owner rs ≡ bad code offset i → BatchError s code offset i
-  unfolding spansIn
-  spans-error [] e = absurd (bad-ok (sym e))
-  spans-error (r ∷ rs) e = go (eqb (ownerOf r) owner) (spans-error rs) e
-    where
-      by-rest : (x : Span) (xs : Read (List Span)) → spansIn (planned p column) s owner rs ≡ xs →
-          (spansIn (planned p column) s owner rs ≡ bad code offset i → BatchError s code offset i) → (xs >>= λ xs. ok (x ∷ xs)) ≡ bad code offset i → BatchError s code offset i
-      by-rest x (ok xs) q rest e = absurd (bad-ok (sym e))
-      by-rest x (bad c o j) q rest e = rest (q ∙ e)
-
-      by-span : (x : Read Span) → spanIn (planned p column) s (r .original) ≡ x →
-          (spansIn (planned p column) s owner rs ≡ bad code offset i → BatchError s code offset i) →
-          (x >>= λ x. spansIn (planned p column) s owner rs >>= λ xs. ok (x ∷ xs)) ≡ bad code offset i → BatchError s code offset i
-      by-span (ok x) q rest e = by-rest x (spansIn (planned p column) s owner rs) refl rest e
-      by-span (bad c o j) q rest e = span-error p s column (r .original) code offset i (q ∙ same-error e)
-
-      go : (t : Bool) → (spansIn (planned p column) s owner rs ≡ bad code offset i → BatchError s code offset i) →
-          pick t (spanIn (planned p column) s (r .original) >>= λ x. spansIn (planned p column) s owner rs >>= λ xs. ok (x ∷ xs)) (spansIn (planned p column) s owner rs)
-          ≡ bad code offset i →
-          BatchError s code offset i
-      go true rest e = by-span (spanIn (planned p column) s (r .original)) refl rest e
-      go false rest e = rest e
-
-  -- every error of a batch
-  pub batch-errors : (table : List ℕ) (room : ℕ) → spansFound p s table owner column room ≡ bad code offset i → BatchError s code offset i
-  unfolding spansBy sized sizedBy about check
-  batch-errors table room e = by-size (leb (length s) limit) e
-    where
-      by-room : (n : ℕ) (xs : List Span) (t : Bool) → (about input.Output (check t 16 n) >>= λ _. ok xs) ≡ bad code offset i → BatchError s code offset i
-      by-room n xs true e = absurd (bad-ok (sym e))
-      by-room n xs false e =
-          let x : 16 ≡ code = cc in
-          let z : n ≡ offset = cc in
-          let y : input.Output ≡ i = cc in
-          rw (← x, ← y) no-room
-
-      by-spans : (r : Read (List Span)) → spansIn (planned p column) s owner (rowsOf table) ≡ r →
-          (r >>= λ xs. about input.Output (check (leb (2 * length xs) room) 16 (length xs)) >>= λ _. ok xs) ≡ bad code offset i → BatchError s code offset i
-      by-spans (ok xs) q e = by-room (length xs) xs (leb (2 * length xs) room) e
-      by-spans (bad c o j) q e = spans-error (rowsOf table) (q ∙ e)
-
-      by-size : (t : Bool) →
-          (about input.Section (check t 19 0)
-          >>= λ _. spansIn (planned p column) s owner (rowsOf table)
-          >>= λ xs. about input.Output (check (leb (2 * length xs) room) 16 (length xs)) >>= λ _. ok xs)
-          ≡ bad code offset i →
-          BatchError s code offset i
-      by-size true e = by-spans (spansIn (planned p column) s owner (rowsOf table)) refl e
-      by-size false e =
-          let z : 0 ≡ offset = cc in
-          let y : input.Section ≡ i = cc in
-          let l : offset ≤ length s = omega arith in
-          rw (← y) (in-section l)
 
 -- The rows that a table lists are its rows.
 

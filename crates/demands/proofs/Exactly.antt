@@ -12,6 +12,7 @@ use borrow.Author.Tests.{leb-true, leb-false, le-leb, lt-leb, ltb-true, ltb-fals
 use Rattle.wire.specs.declared.error.Input.{Input}
 use Rattle.wire.specs.declared.error.Input.the-variants as input
 use Rattle.wire.specs.Read.{Bytes, Read, ok, bad, _>>=_, check, about, limit, sizedBy, sized, whole}
+use Rattle.wire.specs.Output.{fitting}
 use Rattle.wire.proofs.Pieces.{bad-ok}
 use Rattle.grammar.proofs.RowErrors.{OfError, no-error, an-error, of-told}
 use Rattle.demands.specs.Checks.{Refusals, Silent, Never, Nothing, _then_, first, second, Where, so, Exactly, Refuses, Faults, Of, of, Lent, lent, Sizes, over, within, Short, short, Missing, missing, NoRoom, no-room}
@@ -79,6 +80,48 @@ exactly-before (bad c o i) f h code offset name = ((λ e. h code offset name .0 
 -- the same checks in other words
 pub exactly-alike : {A : Type 0} {P Q : Refusals} {r : Read A} → Exactly r P → ((code offset : ℕ) (name : Input) → P code offset name ↔ Q code offset name) → Exactly r Q
 exactly-alike h k code offset name = ((λ e. k code offset name .0 (h code offset name .0 e)), (λ q. h code offset name .1 (k code offset name .1 q)))
+
+-- checks in groups are checks one after the other
+pub then-grouped : {P Q R : Refusals} (code offset : ℕ) (name : Input) → ((P then Q) then R) code offset name ↔ (P then (Q then R)) code offset name
+then-grouped {P} {Q} {R} code offset name = ((λ h. there h), (λ h. back h))
+  where
+    there : ((P then Q) then R) code offset name → (P then (Q then R)) code offset name
+    there (first (first p)) = first p
+    there (first (second s q)) = second s (first q)
+    there (second s r) =
+        let quiet : Silent P = λ c o i p. s c o i (first p) in
+        second quiet (second (λ c o i q. s c o i (second quiet q)) r)
+
+    none : Silent P → Silent Q → {c o : ℕ} {i : Input} → (P then Q) c o i → ⊥
+    none s t (first p) = s _ _ _ p
+    none s t (second _ q) = t _ _ _ q
+
+    back : (P then (Q then R)) code offset name → ((P then Q) then R) code offset name
+    back (first p) = first (first p)
+    back (second s (first q)) = first (second s q)
+    back (second s (second t r)) = second (λ c o i z. none s t z) r
+
+-- the later checks in other words
+pub then-alike :
+    {P Q R : Refusals} → ((code offset : ℕ) (name : Input) → Q code offset name ↔ R code offset name) → (code offset : ℕ) (name : Input) →
+    (P then Q) code offset name ↔ (P then R) code offset name
+then-alike {P} {Q} {R} h code offset name = ((λ p. there p), (λ p. back p))
+  where
+    there : {code offset : ℕ} {name : Input} → (P then Q) code offset name → (P then R) code offset name
+    there (first p) = first p
+    there (second s q) = second s (h _ _ _ .0 q)
+
+    back : {code offset : ℕ} {name : Input} → (P then R) code offset name → (P then Q) code offset name
+    back (first p) = first p
+    back (second s q) = second s (h _ _ _ .1 q)
+
+-- where the first refuse nothing they are no checks
+pub exactly-within : {A : Type 0} {P Q : Refusals} {r : Read A} → Exactly r (P then Q) → Silent P → Exactly r Q
+exactly-within {P = P} {Q = Q} h quiet = exactly-alike h (λ c o i. ((λ p. by p), second quiet))
+  where
+    by : {c o : ℕ} {i : Input} → (P then Q) c o i → Q c o i
+    by (first p) = absurd (quiet _ _ _ p)
+    by (second _ q) = q
 
 -- Errors of one input.
 
@@ -211,40 +254,51 @@ exactly-room needed room = exactly-check (leb needed room) 16 needed (λ t. no-r
     told : (c o : ℕ) → NoRoom needed room c o → (leb needed room ≡ false) × (c ≡ 16) × (o ≡ needed)
     told c o (no-room h) = (lt-leb _ _ h, refl, refl)
 
+-- a piece that is to be written
+pub exactly-fitting : (piece : Bytes) (capacity : ℕ) → Exactly (fitting piece capacity) (Of input.Output (NoRoom (length piece) capacity))
+unfolding fitting
+exactly-fitting piece capacity = exactly-last _ (λ (u : Unit {0}). piece) (exactly-about input.Output _ (exactly-room (length piece) capacity))
+
 -- 19: sizes.
 
 -- the size of one input, before those of others
-pub exactly-size :
-    {A : Type 0} {l : List Lent} {Q : Refusals} (name : Input) (s : Bytes) (rest : Read A) → (length s ≤ limit → Exactly rest (Sizes l then Q)) →
-    Exactly (about name (sized s) >>= λ _. rest) (Sizes (lent name s ∷ l) then Q)
-unfolding sized sizedBy check about
-exactly-size {A} {l} {Q} name s rest h = go (leb (length s) limit) refl
+pub exactly-size-of :
+    {A : Type 0} {l : List Lent} {Q : Refusals} (x : Lent) (rest : Read A) → (x .size ≤ limit → Exactly rest (Sizes l then Q)) →
+    Exactly (about (x .name) (sizedBy (x .size)) >>= λ _. rest) (Sizes (x ∷ l) then Q)
+unfolding sizedBy check about
+exactly-size-of {A} {l} {Q} x rest h = go (leb (x .size) limit) refl
   where
-    skip : length s ≤ limit → {code offset : ℕ} {i : Input} → (Sizes l then Q) code offset i → (Sizes (lent name s ∷ l) then Q) code offset i
+    skip : x .size ≤ limit → {code offset : ℕ} {i : Input} → (Sizes l then Q) code offset i → (Sizes (x ∷ l) then Q) code offset i
     skip w (first p) = first (within w p)
     skip w (second q p) = second (λ c o i z. quiet w q z) p
       where
-        quiet : length s ≤ limit → Silent (Sizes l) → {c o : ℕ} {i : Input} → Sizes (lent name s ∷ l) c o i → ⊥
+        quiet : x .size ≤ limit → Silent (Sizes l) → {c o : ℕ} {i : Input} → Sizes (x ∷ l) c o i → ⊥
         quiet w q (over z) = omega arith
         quiet w q (within z p) = q _ _ _ p
 
-    back : length s ≤ limit → {code offset : ℕ} {i : Input} → (Sizes (lent name s ∷ l) then Q) code offset i → (Sizes l then Q) code offset i
+    back : x .size ≤ limit → {code offset : ℕ} {i : Input} → (Sizes (x ∷ l) then Q) code offset i → (Sizes l then Q) code offset i
     back w (first (over z)) = absurd (omega arith)
     back w (first (within z p)) = first p
     back w (second q p) = second (λ c o i z. q c o i (within w z)) p
 
-    only : limit < length s → {code offset : ℕ} {i : Input} → (Sizes (lent name s ∷ l) then Q) code offset i → _≡_ {A = Read A} (bad 19 0 name) (bad code offset i)
+    only : limit < x .size → {code offset : ℕ} {i : Input} → (Sizes (x ∷ l) then Q) code offset i → _≡_ {A = Read A} (bad 19 0 (x .name)) (bad code offset i)
     only w (first (over z)) = refl
     only w (first (within z p)) = absurd (omega arith)
-    only w (second q p) = absurd (q 19 0 name (over w))
+    only w (second q p) = absurd (q 19 0 (x .name) (over w))
 
-    go : (t : Bool) → leb (length s) limit ≡ t → Exactly (about name (check t 19 0) >>= λ _. rest) (Sizes (lent name s ∷ l) then Q)
+    go : (t : Bool) → leb (x .size) limit ≡ t → Exactly (about (x .name) (check t 19 0) >>= λ _. rest) (Sizes (x ∷ l) then Q)
     go true t code offset i =
-        let w : length s ≤ limit = leb-true _ _ t in
+        let w : x .size ≤ limit = leb-true _ _ t in
         ((λ e. skip w (h w code offset i .0 e)), (λ p. h w code offset i .1 (back w p)))
     go false t code offset i =
-        let w : limit < length s = leb-false _ _ t in
-        ((λ e. moved-error (Sizes (lent name s ∷ l) then Q) e (first (over w))), (λ p. only w p))
+        let w : limit < x .size = leb-false _ _ t in
+        ((λ e. moved-error (Sizes (x ∷ l) then Q) e (first (over w))), (λ p. only w p))
+
+pub exactly-size :
+    {A : Type 0} {l : List Lent} {Q : Refusals} (name : Input) (s : Bytes) (rest : Read A) → (length s ≤ limit → Exactly rest (Sizes l then Q)) →
+    Exactly (about name (sized s) >>= λ _. rest) (Sizes (lent name s ∷ l) then Q)
+unfolding sized
+exactly-size name s rest h = exactly-size-of (lent name s) rest h
 
 -- no more sizes
 pub exactly-sized : {A : Type 0} {Q : Refusals} {r : Read A} → Exactly r Q → Exactly r (Sizes [] then Q)
@@ -261,15 +315,20 @@ exactly-sized {Q = Q} h = exactly-alike h (λ c o i. ((λ q. second (λ c o i z.
     by (first z) = absurd (none z)
     by (second q p) = p
 
--- Where nothing behind the sizes gives 19, a call answers 19 exactly when an input is over the limit.
-pub over-iff :
-    {A : Type 0} {l : List Lent} {Q : Refusals} {r : Read A} → Exactly r (Sizes l then Q) → Never 19 Q → (offset : ℕ) (name : Input) →
+-- Where nothing behind the sizes gives 19 once these pass, a call answers 19 exactly when an input is over the limit.
+pub over-iff-within :
+    {A : Type 0} {l : List Lent} {Q : Refusals} {r : Read A} → Exactly r (Sizes l then Q) → (Silent (Sizes l) → Never 19 Q) → (offset : ℕ) (name : Input) →
     r ≡ bad 19 offset name ↔ Sizes l 19 offset name
-over-iff {l = l} {Q = Q} h never offset name = ((λ e. by (h 19 offset name .0 e)), (λ p. h 19 offset name .1 (first p)))
+over-iff-within {l = l} {Q = Q} h never offset name = ((λ e. by (h 19 offset name .0 e)), (λ p. h 19 offset name .1 (first p)))
   where
     by : (Sizes l then Q) 19 offset name → Sizes l 19 offset name
     by (first p) = p
-    by (second s q) = absurd (never offset name q)
+    by (second s q) = absurd (never s offset name q)
+
+pub over-iff :
+    {A : Type 0} {l : List Lent} {Q : Refusals} {r : Read A} → Exactly r (Sizes l then Q) → Never 19 Q → (offset : ℕ) (name : Input) →
+    r ≡ bad 19 offset name ↔ Sizes l 19 offset name
+over-iff h never = over-iff-within h (λ _. never)
 
 -- Codes that are never given.
 
@@ -312,5 +371,8 @@ pub never-room : {n : ℕ} {name : Input} {needed room : ℕ} → (n ≡ 16 → 
 never-room h = never-of (λ _ f. h (room-codes f))
 
 -- A call refuses exactly so, where nothing behind the sizes gives 19.
+pub refuses-within : {A : Type 0} {l : List Lent} {Q : Refusals} {r : Read A} → Exactly r (Sizes l then Q) → (Silent (Sizes l) → Never 19 Q) → Refuses r l Q
+refuses-within h never = record { exactly = h; over-limit = over-iff-within h never }
+
 pub refuses : {A : Type 0} {l : List Lent} {Q : Refusals} {r : Read A} → Exactly r (Sizes l then Q) → Never 19 Q → Refuses r l Q
-refuses h never = record { exactly = h; over-limit = over-iff h never }
+refuses h never = refuses-within h (λ _. never)

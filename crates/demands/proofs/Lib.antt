@@ -2,7 +2,7 @@ pub mod Exactly
 pub mod Examples
 pub mod Plans
 pub mod Sections
-pub mod Refusals
+pub mod Left
 pub mod Batches
 pub mod RowExactly
 pub mod FileExactly
@@ -11,3 +11,4 @@ pub mod HeadExactly
 pub mod WriterExactly
 pub mod PlanExactly
 pub mod Trips
+pub mod Calls

@@ -33,9 +33,9 @@ use Rattle.batch.specs.Spans.{ownerOf, startIn, isRow, Span, spanOf, moved, spa
 use Rattle.plan.proofs.Laws.{variable-absent, variable-past, variable-bad, passed-variable, passed-fixed, visit-behind, visit-plain, visit-over}
 use Rattle.demands.specs.Checks.{Refusals, Silent, Never, Nothing, _then_, first, second, Exactly, Faults, Of, of, Lent, lent, Sizes, over, within, Short, short, Missing, missing, NoRoom, no-room}
 use Rattle.demands.specs.RowFaults.{FieldFault}
-use Rattle.demands.specs.PlanFaults.{PlanFault, differs, BitFault, this-bit, later-bit, PlanOpenFaults, StopFault, in-stop, behind-stop, HeldFault, held-variable, held-width, JumpFault, on-the-way, in-column, PlannedFaults, BatchFault, in-row, of-other, behind-row, foundSpans}
-use Rattle.demands.proofs.RowExactly.{exactly-field}
-use Rattle.demands.proofs.Exactly.{exactly-ways, same-error, moved-error, ok-silent, exactly-ok, exactly-then, exactly-last, exactly-alike, exactly-about, about-then, about-last, exactly-check, exactly-whole, exactly-missing, exactly-room, exactly-size, exactly-sized, single-fault, over-iff, never-then, never-of}
+use Rattle.demands.specs.PlanFaults.{PlanFault, differs, BitFault, this-bit, later-bit, PlanOpenFaults, StopFault, in-stop, behind-stop, HeldFault, held-variable, held-width, JumpFault, on-the-way, in-column, PlannedFaults, PlannedRowFaults, BatchFault, in-row, of-other, behind-row, foundSpans}
+use Rattle.demands.proofs.RowExactly.{Foreign, exactly-field, field-codes}
+use Rattle.demands.proofs.Exactly.{exactly-ways, same-error, moved-error, ok-silent, exactly-ok, exactly-then, exactly-last, exactly-alike, exactly-about, about-then, about-last, exactly-check, exactly-whole, exactly-missing, exactly-room, exactly-size, exactly-sized, single-fault, never-then, never-of, never-short, never-missing}
 
 -- Places without a row.
 pub fixed-place-exactly : (p : Plan) (k : ℕ) → Exactly (fixedPlace p k) (Of input.Column (Missing (plannedCount p) k))
@@ -208,7 +208,7 @@ module _ (p : Plan) (row : Bytes) where
         back (in-column {w = w} t q f) = rw (present-chapter row (plannedMark p k) t, t, q, held-back (plannedWord p k) (w .at + plannedGap p k) f) refl
 
     -- A look-up through any plan.
-    pub planned-exactly : Exactly (plannedRow p row k) (PlannedFaults p row k)
+    pub planned-exactly : Exactly (plannedRow p row k) (PlannedRowFaults p k row)
     unfolding plannedRow plannedLookUp plannedKnown
     planned-exactly =
         exactly-size input.Row row _
@@ -284,6 +284,39 @@ module _ (look : Bytes → Read Answer) (refuses : Bytes → Refusals) (exact : 
         where
           told : (c o : ℕ) → NoRoom n (room / 2) c o → (leb (2 * n) room ≡ false) × (c ≡ 16) × (o ≡ n)
           told c o (no-room h) = let l : room < 2 * n = omega arith in (lt-leb _ _ l, refl, refl)
+
+-- Codes that are never given.
+
+bit-codes : {row : Bytes} {bs : List ℕ} {code offset : ℕ} → BitFault row bs code offset → code ≡ 12
+bit-codes (this-bit h) = refl
+bit-codes (later-bit h f) = bit-codes f
+
+module _ {n : ℕ} (f : Foreign n) (p : Plan) (row : Bytes) where
+  pub never-planned-open : Never n (PlanOpenFaults p row)
+  never-planned-open = never-then (never-short (f .no-end)) (never-of (λ _ h. f .no-chapter (bit-codes h)))
+
+  module _ (k : ℕ) where
+    stop-codes : {is : List ℕ} {w : Place} {offset : ℕ} → StopFault p row k is w n offset → ⊥
+    stop-codes (in-stop _ _ _ h) = field-codes h (f .no-end) (f .no-length)
+    stop-codes (behind-stop _ h) = stop-codes h
+
+    jump-codes : {code offset : ℕ} → JumpFault p row k code offset → code ≡ n → ⊥
+    jump-codes (on-the-way _ h) e = stop-codes (rw e at h)
+    jump-codes (in-column _ _ (held-variable _ h)) e = field-codes (rw e at h) (f .no-end) (f .no-length)
+    jump-codes (in-column _ _ (held-width _ _)) e = f .no-end (sym e)
+
+    pub never-planned : (n ≡ 18 → ⊥) → Never n (PlannedFaults p row k)
+    never-planned m = never-then (never-missing m) (never-then never-planned-open (never-of (λ _ h. jump-codes h refl)))
+
+pub never-batch :
+    {n : ℕ} {refuses : Bytes → Refusals} (s : Bytes) (owner : ℕ) → ((r : Row) → Never n (refuses (drop (startIn s (r .original)) s))) → (rs : List Row) →
+    Never n (BatchFault refuses s owner rs)
+never-batch {n} {refuses} s owner never rs offset name h = by h refl
+  where
+    by : {rs : List Row} {code offset : ℕ} {name : Input} → BatchFault refuses s owner rs code offset name → code ≡ n → ⊥
+    by (in-row {r = r} _ _ p) e = never r _ _ (rw e at p)
+    by (of-other {r = r} _ _ p) e = never r _ _ (rw e at p)
+    by (behind-row _ p) e = by p e
 
 -- Comparing a plan with the one that a schema makes.
 pub check-plan-exactly :

@@ -391,7 +391,7 @@ module _ (cs : List Column) (row update : Bytes) (k : ℕ) where
 
 -- Codes that row data never give.
 
-field-codes : {c : Column} {row : Bytes} {at code offset : ℕ} → FieldFault c row at code offset → (code ≡ 1 → ⊥) → (code ≡ 14 → ⊥) → ⊥
+pub field-codes : {c : Column} {row : Bytes} {at code offset : ℕ} → FieldFault c row at code offset → (code ≡ 1 → ⊥) → (code ≡ 14 → ⊥) → ⊥
 field-codes (in-prefix _ _) a b = a refl
 field-codes (length-rule _ _ _) a b = b refl
 field-codes (in-bytes _ _ _ _) a b = a refl

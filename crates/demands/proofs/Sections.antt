@@ -1,4 +1,4 @@
--- Demand 2, and demand 1's part: row sections and the table that a caller lends for their rows.
+-- Demand 2: row sections and the table that a caller lends for their rows.
 -- Assumes nothing.
 use Prim.Native.Nat.{ℕ, zero, suc, _+_, _*_, _/_, _≤_, _<_}
 use mathlib.Core.Path.{_≡_, refl, sym, ap, _∙_}
@@ -13,27 +13,27 @@ use Rattle.wire.specs.declared.error.Input.{Input}
 use Rattle.wire.specs.declared.error.Input.the-variants as input
 use Rattle.wire.specs.Read.{Bytes, Read, ok, bad, _>>=_, check, about, limit, sizedBy, sized}
 use Rattle.wire.specs.Output.{put}
-use Rattle.wire.proofs.Laws.{put-fits, sized-within}
+use Rattle.wire.proofs.Laws.{put-fits}
 use Rattle.wire.proofs.Pieces.{bad-ok, bind-ok, ok-ok, sized-ok}
 use Rattle.column.specs.Types.{types, kindIn, kindOf}
 use Rattle.schema.specs.Numbers.{thirdGroup, secondGroup, numberIn}
-use Rattle.schema.specs.Tree.{Tree, member}
+use Rattle.schema.specs.Tree.{member}
 use Rattle.schema.specs.Reader.{readNumber, readRange, readFixed, readVariable, readChapter, readKind, readColumn, readColumns, readSchema, ended, readFile, fileOf}
 use Rattle.schema.specs.Schemas.{Schema, ownColumns, nestedSchemas, schemasOf, readSchemas}
-use Rattle.schema.proofs.Errors.{ErrorAt, short, form, out-of-range, too-much, repeated, bytes-after, refused-where}
 use Rattle.grammar.specs.Grammar.{Element, other, Split, Row, entry, childKind, updateStart, rows}
 use Rattle.grammar.specs.Reader.{section}
 use Rattle.grammar.proofs.Demand as grammar
-use Rattle.grammar.proofs.RowErrors as row
-use Rattle.grammar.proofs.Errors.{Reason, in-row, unknown-token, unknown-id, change-alone, delete-alone, section-errors}
-use Rattle.grammar.proofs.Errors as errors
 use Rattle.grammar.proofs.Usable.{Usable}
 use Rattle.grammar.proofs.Usable as usable
 use Rattle.section.specs.Table.{tableNumbers, rowsFitting, rowsRead, tableAfter}
-use Rattle.section.proofs.Listing.{file-large, section-large, file-read}
+use Rattle.section.proofs.Listing.{file-read}
 use Rattle.grammar.proofs.Examples.{T-schemas, T-elements, T-splits}
 use Rattle.demands.specs.Examples.{T, sectionT}
-use Rattle.demands.specs.Sections.{Given, listing, rowIn, Over, file-over, section-over, Cause, size, in-file, in-section, no-room}
+use Rattle.demands.specs.Checks.{of}
+use Rattle.demands.specs.Sections.{Given, listing, rowIn}
+use Rattle.demands.specs.SectionFaults.{SectionFault}
+use Rattle.demands.proofs.Exactly.{single-fault}
+use Rattle.demands.proofs.SectionExactly.{exactly-section, never-section}
 
 -- Room, and what is refused.
 
@@ -69,39 +69,6 @@ module _ (S : List Schema) (s : Bytes) (numbers : ℕ) where
   unfolding rowsFitting about
   fitting-wrong code offset i e = rw e refl
 
--- Every answer: the rows, or an error with its cause.
-data Told (file s : Bytes) (numbers : ℕ) : Read (List Row) → Type 0 where
-  listed : {S : List Schema} {rs : List Row} → Given file s S → section S s ≡ ok rs → 4 * length rs ≤ numbers → Told file s numbers (ok rs)
-  refused : {code offset : ℕ} {i : Input} → Cause file s numbers code offset i → Told file s numbers (bad code offset i)
-
-told : (file s : Bytes) (numbers : ℕ) → Told file s numbers (rowsRead file s numbers)
-unfolding rowsRead about
-told file s numbers = by-file (leb (length file) limit) refl
-  where
-    by-fitting : {S : List Schema} {r : Read (List Row)} → Given file s S → Fitting S s numbers r → Told file s numbers r
-    by-fitting g (fits e h) = listed g e h
-    by-fitting g (full e h) = refused (no-room g e h)
-    by-fitting g (wrong e) = refused (in-section g e)
-
-    by-schemas : length file ≤ limit → length s ≤ limit → (r : Read (List Schema)) → readSchemas file ≡ r →
-        Told file s numbers (about input.Schema r >>= λ S. rowsFitting S s numbers)
-    by-schemas f h (ok S) e = by-fitting (record { valid = e; within = h }) (fitting S s numbers)
-    by-schemas f h (bad c o i) e = refused (in-file f h e)
-
-    by-section : length file ≤ limit → (t : Bool) → leb (length s) limit ≡ t → Told file s numbers (rowsRead file s numbers)
-    by-section f true e =
-        let h : length s ≤ limit = leb-true _ _ e in
-        rw (sized-within file f, sized-within s h) (by-schemas f h (readSchemas file) refl)
-    by-section f false e =
-        let h : limit < length s = leb-false _ _ e in
-        rw (section-large file s numbers f h) (refused (size (section-over f h)))
-
-    by-file : (t : Bool) → leb (length file) limit ≡ t → Told file s numbers (rowsRead file s numbers)
-    by-file true e = let f : length file ≤ limit = leb-true _ _ e in by-section f (leb (length s) limit) refl
-    by-file false e =
-        let f : limit < length file = leb-false _ _ e in
-        rw (file-large file s numbers f) (refused (size (file-over f)))
-
 -- a valid file is within the limit
 valid-within : (file : Bytes) (S : List Schema) → readSchemas file ≡ ok S → length file ≤ limit
 unfolding readSchemas fileOf
@@ -113,116 +80,6 @@ valid-within file S e =
 -- with the premises, the answer is that of the rows that fit
 given-read : {file s : Bytes} {S : List Schema} → Given file s S → (numbers : ℕ) → rowsRead file s numbers ≡ rowsFitting S s numbers
 given-read {file} {s} {S} g numbers = file-read file s numbers (valid-within file S (g .valid)) (g .within) S (g .valid)
-
--- The codes of a file's errors and of a section's are below those of room and size.
-
-file-code : {n code offset : ℕ} → ErrorAt n code offset → code ≤ 15
-file-code (short h) = omega arith
-file-code (form h) = omega arith
-file-code (out-of-range h) = omega arith
-file-code (too-much h) = omega arith
-file-code (repeated h) = omega arith
-file-code (bytes-after h) = omega arith
-
-section-code : {S : List Schema} {s : Bytes} {code offset : ℕ} → Reason S s code offset → code ≤ 15
-section-code (in-row row.short) = omega arith
-section-code (in-row (row.chapter-bit _)) = omega arith
-section-code (in-row (row.force-rule _)) = omega arith
-section-code (in-row (row.length-rule _)) = omega arith
-section-code (unknown-token _ _) = omega arith
-section-code (unknown-id _ _ _) = omega arith
-section-code (change-alone _ _) = omega arith
-section-code (delete-alone _ _) = omega arith
-section-code (errors.bytes-after _ _ _) = omega arith
-
-file-end : {n code offset : ℕ} → ErrorAt n code offset → code ≡ 1 → offset ≡ n
-file-end (short h) e = h
-file-end (form h) e = absurd (omega arith)
-file-end (out-of-range h) e = absurd (omega arith)
-file-end (too-much h) e = absurd (omega arith)
-file-end (repeated h) e = absurd (omega arith)
-file-end (bytes-after h) e = absurd (omega arith)
-
--- an error of the file, whose size is allowed
-file-error : (file : Bytes) (code offset : ℕ) (i : Input) → length file ≤ limit → readSchemas file ≡ bad code offset i → ErrorAt (length file) code offset
-unfolding readSchemas fileOf
-file-error file code offset i h e = by (readFile file) refl (rw (sized-within file h) at e)
-  where
-    told-alike : {c o : ℕ} {j : Input} → _≡_ {A = Read (List Schema)} (bad c o j) (bad code offset i) → _≡_ {A = Read Tree} (bad c o j) (bad code offset i)
-    told-alike {c} {o} {j} e =
-        let x : c ≡ code = cc in
-        let y : o ≡ offset = cc in
-        let z : j ≡ i = cc in
-        cc
-
-    by : (r : Read Tree) → readFile file ≡ r → (r >>= λ t. ok (schemasOf t)) ≡ bad code offset i → ErrorAt (length file) code offset
-    by (ok t) q e = absurd (bad-ok (sym e))
-    by (bad c o j) q e = refused-where file code offset i (q ∙ told-alike e) .0
-
--- Demand 1: errors.
-
-module _ (file s : Bytes) (numbers : ℕ) where
-  error-cause : (code offset : ℕ) (i : Input) → rowsRead file s numbers ≡ bad code offset i → Cause file s numbers code offset i
-  error-cause code offset i e = by (told file s numbers) e
-    where
-      by : {r : Read (List Row)} → Told file s numbers r → r ≡ bad code offset i → Cause file s numbers code offset i
-      by (listed g q h) e = absurd (bad-ok (sym e))
-      by (refused {code = c} {offset = o} {i = j} k) e =
-          let x : c ≡ code = cc in
-          let y : o ≡ offset = cc in
-          let z : j ≡ i = cc in
-          rw (← x, ← y, ← z) k
-
-  cause-error : {code offset : ℕ} {i : Input} → Cause file s numbers code offset i → rowsRead file s numbers ≡ bad code offset i
-  unfolding rowsRead about
-  cause-error (size (file-over h)) = file-large file s numbers h
-  cause-error (size (section-over f h)) = section-large file s numbers f h
-  cause-error (in-file f h q) = rw (sized-within file f, sized-within s h, q) refl
-  cause-error (in-section {S = S} {code = c} {offset = o} {i = j} g q) = given-read g numbers ∙ fitting-wrong S s numbers c o j q
-  cause-error (no-room {S = S} {rs = rs} g q h) = given-read g numbers ∙ fitting-full S s numbers rs q h
-
-  -- An error is answered exactly where it has its cause.
-  pub refused-iff-cause : (code offset : ℕ) (i : Input) → rowsRead file s numbers ≡ bad code offset i ↔ Cause file s numbers code offset i
-  refused-iff-cause code offset i = (error-cause code offset i, λ c. cause-error c)
-
-  -- Error 19 is answered exactly where an input is over the limit: the file before the section, and at offset 0.
-  pub over-iff : (offset : ℕ) (i : Input) → rowsRead file s numbers ≡ bad 19 offset i ↔ Over file s offset i
-  over-iff offset i = (λ e. by (error-cause 19 offset i e) refl, λ o. cause-error (size o))
-    where
-      by : {code o : ℕ} {j : Input} → Cause file s numbers code o j → code ≡ 19 → Over file s o j
-      by (size o) e = o
-      by (in-file {code = c} {offset = o} {i = j} h _ q) e = let l : c ≤ 15 = file-code (file-error file c o j h q) in absurd (omega arith)
-      by (in-section {S = S} {code = c} {offset = o} {i = j} g q) e =
-          let l : c ≤ 15 = section-code (section-errors S s c o j q .0) in
-          absurd (omega arith)
-      by (no-room g q h) e = absurd (omega arith)
-
-  -- Error 1 of the section stands at the section's length.
-  pub section-short : (offset : ℕ) → rowsRead file s numbers ≡ bad 1 offset input.Section → offset ≡ length s
-  section-short offset e = by (error-cause 1 offset input.Section e) refl refl
-    where
-      by : {code o : ℕ} {i : Input} → Cause file s numbers code o i → code ≡ 1 → i ≡ input.Section → o ≡ length s
-      by (size o) e k = absurd (omega arith)
-      by (in-file h _ q) e k = let z : _≡_ {A = ℕ} 0 1 = cc in absurd (omega arith)
-      by (in-section {S = S} {offset = o} {i = j} g q) e k = errors.short-at-length S s o j (rw e at q)
-      by (no-room g q h) e k = absurd (omega arith)
-
-  -- Error 1 of the schema file stands at the file's length.
-  pub file-short : (offset : ℕ) → rowsRead file s numbers ≡ bad 1 offset input.Schema → offset ≡ length file
-  file-short offset e = by (error-cause 1 offset input.Schema e) refl refl
-    where
-      by : {code o : ℕ} {i : Input} → Cause file s numbers code o i → code ≡ 1 → i ≡ input.Schema → o ≡ length file
-      by (size o) e k = absurd (omega arith)
-      by (in-file {code = c} {offset = o} {i = j} h _ q) e k = file-end (file-error file c o j h q) e
-      by (in-section g q) e k = let z : _≡_ {A = ℕ} 0 1 = cc in absurd (omega arith)
-      by (no-room g q h) e k = absurd (omega arith)
-
--- An error leaves the table as it was.
-pub error-leaves-table :
-    (file s : Bytes) (table : List ℕ) (code offset : ℕ) (i : Input) → rowsRead file s (length table) ≡ bad code offset i →
-    tableAfter (rowsRead file s (length table)) table ≡ table
-unfolding tableAfter
-error-leaves-table file s table code offset i e = rw e refl
 
 -- Demand 2: acceptance.
 
@@ -287,8 +144,8 @@ module _ (file s : Bytes) (S : List Schema) (g : Given file s S) where
           (es, sp, rw r l, rw (← l) h, z)
       by (wrong {code = c} {offset = o} {i = j} q) e =
           let k : c ≡ 16 = cc in
-          let l : c ≤ 15 = section-code (section-errors S s c o j q .0) in
-          absurd (omega arith)
+          let f : SectionFault S s other 0 c o = single-fault (exactly-section S s) q .0 in
+          absurd (never-section S s 16 (omega arith) o input.Single (of (rw k at f)))
 
   -- What the rules do not split is refused, whatever room there is, by an error of the section.
   pub unsplit-refused :

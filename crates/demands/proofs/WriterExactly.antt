@@ -12,7 +12,6 @@ use borrow.Author.Tests.{leb-true, leb-false, le-leb, lt-leb, ltb-true, ltb-fals
 use Rattle.wire.specs.declared.error.Input.{Input}
 use Rattle.wire.specs.declared.error.Input.the-variants as input
 use Rattle.wire.specs.Read.{Bytes, Read, ok, bad, _>>=_, pick, check, about}
-use Rattle.wire.specs.Output.{fitting}
 use Rattle.wire.proofs.Pieces.{bad-ok}
 use Rattle.column.specs.declared.column.Column.{Column}
 use Rattle.column.specs.declared.types.Kind.{Kind}
@@ -26,7 +25,7 @@ use Rattle.encode.specs.Writers.{lengthStands, inOriginal, inUpdate, entriesSta
 use Rattle.demands.specs.Checks.{Refusals, Silent, Never, Nothing, _then_, first, second, Exactly, Faults, Of, of, Missing, missing, NoRoom, no-room}
 use Rattle.demands.specs.RowFaults.{LengthFault, too-long, too-wide, odd}
 use Rattle.demands.specs.WriterFaults.{CountFault, not-one-each, NoEntry, no-entry, CantStand, not-nullable, wrong-width, wrong-length, over-prefix, unchanged-there, chapter-value, chapter-null, EntryFault, this-entry, later-entry, WriteFaults}
-use Rattle.demands.proofs.Exactly.{exactly-then, exactly-last, exactly-about, exactly-check, exactly-missing, exactly-room, moved-error, never-then, never-of, never-missing, never-room}
+use Rattle.demands.proofs.Exactly.{exactly-then, exactly-fitting, exactly-about, exactly-check, exactly-missing, moved-error, never-then, never-of, never-missing, never-room}
 use Rattle.demands.proofs.RowExactly.{length-fault, length-either}
 
 -- 18: the entries.
@@ -205,10 +204,6 @@ exactly-place size place = exactly-check (leb place size) 18 0 (λ t. let l : si
   where
     told : (c o : ℕ) → Missing (suc size) place c o → (leb place size ≡ false) × (c ≡ 18) × (o ≡ 0)
     told c o (missing h) = let l : size < place = omega arith in (lt-leb _ _ l, refl, refl)
-
-exactly-fitting : (piece : Bytes) (capacity : ℕ) → Exactly (fitting piece capacity) (Of input.Output (NoRoom (length piece) capacity))
-unfolding fitting
-exactly-fitting piece capacity = exactly-last _ (λ (u : Unit {0}). piece) (exactly-about input.Output _ (exactly-room (length piece) capacity))
 
 exactly-writing :
     (update : Bool) (cs : List Column) (numbers : List ℕ) (values : Bytes) (size place : ℕ) →

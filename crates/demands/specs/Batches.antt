@@ -6,8 +6,6 @@ use mathlib.Core.List.{List, [], _∷_}
 use mathlib.Core.Option.{some}
 use lib.ListN.{length}
 use lib.Dec.{eqb}
-use Rattle.wire.specs.declared.error.Input.{Input}
-use Rattle.wire.specs.declared.error.Input.the-variants as input
 use Rattle.wire.specs.Read.{Bytes, Read, ok, pick}
 use Rattle.row.specs.Rows.{Answer}
 use Rattle.schema.specs.Schemas.{Schema, childNumber}
@@ -39,9 +37,3 @@ pub data Lies (s : Bytes) : Span → Type 0 where
   lies : {a b : ℕ} → a ≤ b → b ≤ length s → Lies s (span a b)
   is-null : Lies s (span nullMark nullMark)
   is-chapter : Lies s (span chapterMark chapterMark)
-
--- The errors that there are: of the section, at a place in it or its end; of the column number; of the room.
-pub data BatchError (s : Bytes) : (code offset : ℕ) → Input → Type 0 where
-  in-section : {code offset : ℕ} → offset ≤ length s → BatchError s code offset input.Section
-  no-column : BatchError s 18 0 input.Column
-  no-room : {spans : ℕ} → BatchError s 16 spans input.Output

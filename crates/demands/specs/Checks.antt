@@ -2,7 +2,7 @@
 -- Each check says in the words of document 01's table when it refuses, with which code (the paper's number), at which offset (its place) and
 -- of which input.
 -- Assumes nothing.
-use Prim.Native.Nat.{ℕ, _+_, _≤_, _<_}
+use Prim.Native.Nat.{ℕ, _+_, _*_, _≤_, _<_}
 use mathlib.Core.Path.{_≡_}
 use mathlib.Core.List.{List, [], _∷_}
 use mathlib.Core.Bool.{Bool, true}
@@ -49,18 +49,22 @@ Faults = (code offset : ℕ) → Type 0
 pub data Of (name : Input) (F : Faults) : (code offset : ℕ) → Input → Type 0 where
   of : {code offset : ℕ} → F code offset → Of name F code offset name
 
--- bytes that a call is given, by that name
+-- an input that a call is given, by that name, and its size in bytes
 pub record Lent : Type 0 where
   pub name : Input
-  pub bytes : Bytes
+  pub size : ℕ
 
 abbrev pub lent : Input → Bytes → Lent
-lent name bytes = record { name = name; bytes = bytes }
+lent name bytes = record { name = name; size = length bytes }
+
+-- numbers of 32 bits
+abbrev pub lentNumbers : Input → List ℕ → Lent
+lentNumbers name numbers = record { name = name; size = 4 * length numbers }
 
 -- 19: an input over the limit, at 0. All sizes are looked at first, in this order.
 pub data Sizes : List Lent → (code offset : ℕ) → Input → Type 0 where
-  over : {x : Lent} {l : List Lent} → limit < length (x .bytes) → Sizes (x ∷ l) 19 0 (x .name)
-  within : {x : Lent} {l : List Lent} {code offset : ℕ} {name : Input} → length (x .bytes) ≤ limit → Sizes l code offset name → Sizes (x ∷ l) code offset name
+  over : {x : Lent} {l : List Lent} → limit < x .size → Sizes (x ∷ l) 19 0 (x .name)
+  within : {x : Lent} {l : List Lent} {code offset : ℕ} {name : Input} → x .size ≤ limit → Sizes l code offset name → Sizes (x ∷ l) code offset name
 
 -- 1: the input ends inside so many bytes from `at` on; at its length
 pub data Short (bytes : Bytes) (at size : ℕ) : (code offset : ℕ) → Type 0 where

@@ -1,16 +1,21 @@
 -- What can be wrong with a schema file (document 01, "Column sheet", and its table of refusals), exactly. `State` is where the reader stands:
 -- what is left of the file, its offset, the counts so far added up, the child ids so far.
 -- Assumes nothing.
-use Prim.Native.Nat.{ℕ, zero, suc, _+_, _≤_, _<_}
+use Prim.Native.Nat.{ℕ, zero, suc, _+_, _*_, _≤_, _<_}
 use mathlib.Core.Path.{_≡_}
-use mathlib.Core.List.{List, [], _∷_}
+use mathlib.Core.List.{List, [], _∷_, _++_}
 use mathlib.Core.Bool.{true, false}
-use lib.ListN.{length}
-use Rattle.wire.specs.Read.{Bytes, ok}
+use lib.ListN.{length, getD}
+use Rattle.wire.specs.Read.{Bytes, Read, ok, bad, limit}
+use Rattle.column.specs.declared.column.Column.{Column}
 use Rattle.column.specs.declared.types.Kind.the-variants.{Chapter, Unknown}
 use Rattle.column.specs.Types.{kindOf, variableKind}
-use Rattle.schema.specs.Tree.{mostColumns, mostFileColumns, mostDepth, mostFlags, mostMaximum, Tree, member}
-use Rattle.schema.specs.Reader.{State, stateAt, Got, counting, seeing, Node, readNumber, readRange, readColumn, readSchema}
+use Rattle.schema.specs.Numbers.{numberLimit}
+use Rattle.schema.specs.Tree.{mostColumns, mostFileColumns, mostDepth, mostFlags, mostMaximum, Tree, numbers, member}
+use Rattle.schema.specs.Reader.{State, stateAt, Got, counting, seeing, Node, readNumber, readRange, readColumn, readSchema, fileOf}
+use Rattle.schema.specs.Schemas.{Schema, schema, readSchemas}
+use Rattle.schema.specs.Writer.{coded}
+use Rattle.grammar.specs.Grammar.{columnsAt}
 
 -- A number in what is left, which stands at `at`. 1: it lacks a group, at the end of the input. 5: it has a group more than it needs, or more
 -- than three groups, at its start.
@@ -72,3 +77,37 @@ pub data SchemaFault : Part → State → (code offset : ℕ) → Type 0 where
 pub data FileFault (b : Bytes) : (code offset : ℕ) → Type 0 where
   in-schema : {code offset : ℕ} → SchemaFault (aSchema mostDepth) (stateAt b 0 0 []) code offset → FileFault b code offset
   bytes-after : {t : Got Tree} → readSchema mostDepth (stateAt b 0 0 []) ≡ ok t → 0 < length (t .next .left) → FileFault b 15 (t .next .at)
+
+-- the schemas that were read; none where there is an error
+abbrev pub schemasTold : Read (List Schema) → List Schema
+schemasTold (ok schemas) = schemas
+schemasTold (bad code offset name) = []
+
+-- the schemas of a file; none where it is refused
+unfoldable pub schemasIn : Bytes → List Schema
+schemasIn b = schemasTold (readSchemas b)
+
+-- the columns of its schema number k; none where there is no such schema
+unfoldable pub columnsIn : Bytes → ℕ → List Column
+columnsIn b k = columnsAt (schemasIn b) k
+
+-- the numbers of the file that was read; none where there is an error
+abbrev pub numbersTold : Read Tree → List ℕ
+numbersTold (ok t) = numbers t
+numbersTold (bad code offset name) = []
+
+-- the numbers of a file; none where it is refused
+unfoldable pub numbersIn : Bytes → List ℕ
+numbersIn b = numbersTold (fileOf b)
+
+-- 18: no nested schema has this child id; at 0
+pub data NoChild (schemas : List Schema) (id : ℕ) : (code offset : ℕ) → Type 0 where
+  no-child : ((k : ℕ) → 1 ≤ k → k < length schemas → getD schemas k (schema 0 []) .id ≡ id → ⊥) → NoChild schemas id 18 0
+
+-- Numbers to be written.
+pub data WrittenFault (ns : List ℕ) : (code offset : ℕ) → Type 0 where
+  -- 6: a number over three groups, where the reader would read it: there it refuses what stands for the number
+  over-groups : (before : List ℕ) (n : ℕ) (behind : List ℕ) → ns ≡ before ++ (n ∷ behind) → numberLimit ≤ n → FileFault (coded ns) 5 (length (coded before)) →
+      WrittenFault ns 6 (length (coded before))
+  -- all else that the reader refuses of their bytes
+  as-read : {code offset : ℕ} → FileFault (coded ns) code offset → (code ≡ 5 → ⊥) → WrittenFault ns code offset

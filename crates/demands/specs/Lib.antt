@@ -1,7 +1,6 @@
 pub mod Examples
 pub mod Agreement
 pub mod Sections
-pub mod Refusals
 pub mod Checks
 pub mod Batches
 pub mod RowFaults
@@ -11,3 +10,4 @@ pub mod HeadFaults
 pub mod WriterFaults
 pub mod PlanFaults
 pub mod Trips
+pub mod Calls

@@ -51,10 +51,13 @@ pub data JumpFault (p : Plan) (row : Bytes) (k : ℕ) : (code offset : ℕ) → 
   in-column : {code offset : ℕ} {w : Place} → present row (plannedMark p k) ≡ true → visits p row k (stopsTo p k) (place 0 0) ≡ ok w →
       HeldFault (plannedWord p k) row (w .at + plannedGap p k) code offset → JumpFault p row k code offset
 
--- A look-up through any plan: the row's size (19), the column number (18), the row opens (1, 12), and then the way to the column.
+-- A look-up through any plan, behind the row's size: the column number (18), the row opens (1, 12), and then the way to the column.
 abbrev pub PlannedFaults : Plan → Bytes → ℕ → Refusals
-PlannedFaults p row k =
-    Sizes (lent input.Row row ∷ []) then Of input.Column (Missing (plannedCount p) k) then PlanOpenFaults p row then Of input.Row (JumpFault p row k)
+PlannedFaults p row k = Of input.Column (Missing (plannedCount p) k) then PlanOpenFaults p row then Of input.Row (JumpFault p row k)
+
+-- with the row's size (19) in front
+abbrev pub PlannedRowFaults : Plan → ℕ → Bytes → Refusals
+PlannedRowFaults p k row = Sizes (lent input.Row row ∷ []) then PlannedFaults p row k
 
 -- One column of the rows of an owner, by what a look-up refuses of the part of the section from a row's start on: the first row that is refused,
 -- an error of the row being one of the section, at its place there.

@@ -2,16 +2,19 @@
 -- Assumes nothing.
 use Prim.Native.Nat.{ℕ, _+_, _≤_, _<_}
 use mathlib.Core.Path.{_≡_}
-use mathlib.Core.List.{List}
+use mathlib.Core.List.{List, [], _∷_}
 use mathlib.Core.Option.{none, some}
 use lib.ListN.{length, getD}
 use Rattle.wire.specs.declared.error.Input.the-variants as input
-use Rattle.wire.specs.Read.{Bytes, ok}
+use Rattle.wire.specs.Read.{Bytes, Read, ok, bad}
 use Rattle.row.specs.Rows.{rowEnd}
 use Rattle.row.specs.Updates.{updateEnd}
 use Rattle.schema.specs.Schemas.{Schema, childNumber}
-use Rattle.grammar.specs.Grammar.{Before, other, after, columnsAt}
-use Rattle.grammar.specs.Reader.{idAt}
+use Rattle.grammar.specs.Grammar.{Before, other, after, columnsAt, Row}
+use Rattle.grammar.specs.Reader.{idAt, section}
+use Rattle.section.specs.Table.{roomFor}
+use Rattle.demands.specs.Checks.{Refusals, _then_, Of, lent, Sizes, NoRoom}
+use Rattle.demands.specs.FileFaults.{FileFault, schemasIn}
 use Rattle.demands.specs.RowFaults.{RowFaults, UpdateFaults}
 
 -- a byte that is no token
@@ -23,15 +26,15 @@ pub record NoToken (b : ℕ) : Type 0 where
   pub no-done : b ≡ 0x0F → ⊥
 
 -- a token with a child id behind it
-pub data HasId : ℕ → Type 0 where
-  of-child : HasId 0x87
-  of-change : HasId 0x8A
-  of-delete : HasId 0x8C
+pub data HasId (b : ℕ) : Type 0 where
+  of-child : b ≡ 0x87 → HasId b
+  of-change : b ≡ 0x8A → HasId b
+  of-delete : b ≡ 0x8C → HasId b
 
 -- 8A and 8C
-pub data Follows : ℕ → Type 0 where
-  a-change : Follows 0x8A
-  a-delete : Follows 0x8C
+pub data Follows (b : ℕ) : Type 0 where
+  a-change : b ≡ 0x8A → Follows b
+  a-delete : b ≡ 0x8C → Follows b
 
 -- The elements from `at` on, with `before` directly before them. All places are counted from the section's first byte.
 pub data SectionFault (S : List Schema) (s : Bytes) : Before → (at code offset : ℕ) → Type 0 where
@@ -63,3 +66,17 @@ pub data SectionFault (S : List Schema) (s : Bytes) : Before → (at code offset
       updateEnd (columnsAt S k) s (at + 5) ≡ ok e → SectionFault S s other e code offset → SectionFault S s (after (idAt s at)) at code offset
   behind-delete : {at code offset : ℕ} → getD s at 0 ≡ 0x8C → at + 5 ≤ length s → SectionFault S s other (at + 5) code offset →
       SectionFault S s (after (idAt s at)) at code offset
+
+-- the rows of a section; none where it is refused
+abbrev pub rowsTold : Read (List Row) → List Row
+rowsTold (ok rs) = rs
+rowsTold (bad code offset name) = []
+
+unfoldable pub rowsIn : List Schema → Bytes → List Row
+rowsIn schemas s = rowsTold (section schemas s)
+
+-- The rows of a section under a schema file, in a table of so many numbers, behind the sizes: the file, the section, and last the room for its rows.
+abbrev pub RowsFaults : (file section : Bytes) (numbers : ℕ) → Refusals
+RowsFaults file s numbers =
+    Of input.Schema (FileFault file) then Of input.Section (SectionFault (schemasIn file) s other 0)
+    then Of input.Table (NoRoom (length (rowsIn (schemasIn file) s)) (roomFor numbers))
