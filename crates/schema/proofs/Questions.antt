@@ -5,7 +5,7 @@ use mathlib.Core.Path.{_≡_, refl, sym, ap, subst, _∙_}
 use mathlib.Core.List.{List, [], _∷_}
 use mathlib.Core.Bool.{Bool, true, false}
 use native.Mathlib.Omega.{arith}
-use lib.ListN.{length, getD}
+use lib.ListN.{length, getD, length-replicate}
 use lib.Dec.{ltb}
 use borrow.Author.Tests.{lt-ltb, le-ltb, eq-eqb, ne-eqb}
 use Rattle.wire.specs.declared.error.Error.{Error}
@@ -20,6 +20,11 @@ use mathlib.Core.Option.{Option, none, some}
 use Rattle.schema.specs.Schemas.{Entry, entry, childNumber, Schema, schema, schemasOf, readSchemas, schemaCount, columnCount, schemaAt}
 use Rattle.schema.specs.Table.{tableSize, schemaSlot, codeIn, idIn, startIn, countIn, layFile, entryIn, entriesIn, schemaIn, schemasIn}
 use Rattle.schema.specs.Filling.{Filled, fillFile}
+use Rattle.schema.specs.declared.reader.Place.{Place}
+use Rattle.schema.specs.declared.reader.PlaceRead.{PlaceRead}
+use Rattle.schema.specs.declared.reader.PlaceRead.the-variants as place
+use Rattle.schema.specs.declared.reader.FileTable.{FileTable}
+use Rattle.schema.specs.Told.{placed, toldPlace, blank, Tabled}
 use Rattle.schema.specs.Questions.{withSchema, alone, Counts, countsOf, Selected, selected, selectedOf, Slots, or0, foundChild, childOf, nestedOf, entryAt, Asked, columnOf}
 use Rattle.schema.proofs.Children.{child-found}
 use Rattle.schema.proofs.SchemaLists.{schemas-length, column-total, schemas-few, SchemaRange, SchemasRange, no-schema, a-schema, schemas-range}
@@ -123,6 +128,22 @@ slots-of b table bytes long f h k l =
     subst
     (λ (g : Filled). k < g .schemas → Slots (startIn (getD (g .table) (schemaSlot k) 0)) (countIn (getD (g .table) (schemaSlot k) 0)) (g .schemas))
     (r .fills) (laid-slots (r .tree) table (r .good) long k) l
+
+-- A file that was read with its table by value.
+pub blank-long : length blank ≡ tableSize
+blank-long = length-replicate {A = ℕ} tableSize 0
+
+module _ {b : Bytes} {r : FileTable} (t : Tabled b r) where
+  told-table : {x : PlaceRead} → r .read ≡ x → fillFile b blank ≡ toldPlace x (r .table)
+  told-table h = sym (t .answers) ∙ ap (λ (x : PlaceRead). toldPlace x (r .table)) h
+
+  -- where it was read, the reader left this table
+  pub tabled-read : {p : Place} → r .read ≡ place.Read p → fillFile b blank ≡ ok (placed p (r .table))
+  tabled-read h = told-table h
+
+  -- where it was refused, it has no schemas
+  pub tabled-refused : AreBytes b → {e : Error} → r .read ≡ place.Refused e → readSchemas b ≡ refused e
+  tabled-refused bytes {e} h = schemas-refused b blank bytes blank-long e (told-table h)
 
 -- A question of one schema by what the schema's selection says.
 module _ {A : Type 0} (b : Bytes) (k : ℕ) (rest : List Schema → List Entry → Read A) where

@@ -3,13 +3,15 @@
 use Prim.Native.Nat.{ℕ, _≤_}
 use mathlib.Core.Path.{_≡_}
 use mathlib.Core.List.{List}
-use lib.ListN.{length}
-use Rattle.wire.specs.Read.{Bytes, Read, ok, refused}
+use lib.ListN.{length, replicate}
+use Rattle.wire.specs.Read.{Bytes, Read, ok, bad, refused}
 use Rattle.schema.specs.declared.reader.Place.{Place}
 use Rattle.schema.specs.declared.reader.PlaceRead.{PlaceRead}
 use Rattle.schema.specs.declared.reader.PlaceRead.the-variants.{Read as read, Refused}
+use Rattle.schema.specs.declared.reader.FileTable.{FileTable}
 use Rattle.schema.specs.Tree.{mostFileColumns}
-use Rattle.schema.specs.Filling.{Filled, filled}
+use Rattle.schema.specs.Table.{tableSize}
+use Rattle.schema.specs.Filling.{Filled, filled, fillFile}
 
 -- a place with its table
 abbrev pub placed : Place → List ℕ → Filled
@@ -45,3 +47,17 @@ Moves b p (Refused e) = Unit {0}
 pub record Told (b : Bytes) (p : Place) (filling : Read Filled) (exit : List ℕ) (r : PlaceRead) : Type 0 where
   pub answers : toldPlace r exit ≡ filling
   pub moves : Moves b p r
+
+-- a table with nothing in it
+abbrev pub blank : List ℕ
+blank = replicate tableSize 0
+
+-- the table of a file: zeros beside an error
+abbrev pub tableOf : Read Filled → List ℕ
+tableOf (ok f) = f .table
+tableOf (bad code offset about) = blank
+
+-- what the code promises of a whole file and its table by value
+pub record Tabled (b : Bytes) (r : FileTable) : Type 0 where
+  pub answers : toldPlace (r .read) (r .table) ≡ fillFile b blank
+  pub holds : r .table ≡ tableOf (fillFile b blank)

@@ -6,7 +6,7 @@ ghost use Rattle.schema.specs.Numbers.{numberLimit};
 ghost use Rattle.schema.specs.Tree.{member};
 ghost use Rattle.schema.specs.Table.{idsIn, packed, block};
 ghost use Rattle.schema.specs.Filling.{fillColumn, fillSchema, fillFile};
-ghost use Rattle.schema.specs.Told.{placed, origin, Ready, Told};
+ghost use Rattle.schema.specs.Told.{placed, origin, Ready, Told, Tabled};
 use crate::head::HeadRead;
 use crate::head::head_at;
 use crate::number::NumberRead;
@@ -27,6 +27,12 @@ pub struct Place {
 pub enum PlaceRead {
     Read(Place),
     Refused(Error),
+}
+
+// A file that was read, and the table that it fills; a table of zeros where it was refused.
+pub struct FileTable {
+    pub read: PlaceRead,
+    pub table: [u64; 512],
 }
 
 // Whether a nested schema has this id, where so many schemas have a number.
@@ -168,7 +174,7 @@ fn read_column(
 }
 
 // A whole file, into a table: how much it has.
-pub fn read_file(file: &[u8], table: &mut [u64; 512]) -> PlaceRead
+pub(crate) fn read_file(file: &[u8], table: &mut [u64; 512]) -> PlaceRead
     ensures { λ r. ⌜ Told (now (file .entry)) origin (fillFile (now (file .entry)) (now (table .entry))) (now (table .exit)) r ⌝ }
 {
     if LIMIT < file.len() {
@@ -197,4 +203,19 @@ pub fn read_file(file: &[u8], table: &mut [u64; 512]) -> PlaceRead
             PlaceRead::Read(p)
         }
     }
+}
+
+// A whole file, with the table by value.
+pub fn read_table(file: &[u8]) -> FileTable
+    ensures { λ r. ⌜ Tabled (now (file .entry)) r ⌝ }
+{
+    let mut table = [0u64; 512];
+    let read = read_file(file, &mut table);
+    match read {
+        PlaceRead::Refused(_) => {
+            table = [0u64; 512];
+        }
+        PlaceRead::Read(_) => {}
+    }
+    FileTable { read, table }
 }

@@ -11,13 +11,17 @@ use Rattle.wire.proofs.Pieces.{bind-ok, ok-ok}
 use Rattle.schema.specs.Tree.{Tree, WellFormed, counts}
 use Rattle.schema.specs.Reader.{fileOf}
 use Rattle.schema.specs.Schemas.{Schema, schema, schemasOf, readSchemas, columnCount, childNumber}
-use Rattle.schema.specs.Table.{tableSize, schemaSlot, idIn, schemaIn, schemasIn}
-use Rattle.schema.specs.Filling.{Filled, fillFile}
+use Rattle.schema.specs.Table.{schemaSlot, idIn, startIn, countIn, schemaIn, schemasIn}
+use Rattle.schema.specs.Questions.{Slots}
+use Rattle.schema.specs.declared.reader.Place.{Place}
+use Rattle.schema.specs.declared.reader.PlaceRead.the-variants as place
+use Rattle.schema.specs.declared.reader.FileTable.{FileTable}
+use Rattle.schema.specs.Told.{placed, blank, Tabled}
 use Rattle.schema.proofs.SchemaLists.{schemas-length, column-total, schemas-few}
 use Rattle.schema.proofs.Children.{child-only}
 use Rattle.schema.proofs.TableSays.{schemas-in-length, schemas-in-at}
 use Rattle.schema.proofs.Theorem.{file-of-iff}
-use Rattle.schema.proofs.Questions.{schemas-read, slots-of}
+use Rattle.schema.proofs.Questions.{schemas-read, slots-of, blank-long, tabled-read}
 use Rattle.section.specs.Shapes.{Sound}
 
 -- A table that says the schemas of a well-formed file.
@@ -48,24 +52,27 @@ module _ (t : Tree) (good : WellFormed t) (n : ℕ) (slots : List ℕ) (says : s
       ∙ sym (ap (λ (ss : List Schema). childNumber ss (getD (schemasOf t) k (schema 0 []) .id)) says)
       ∙ child-only t good k l (omega (arith, same-count))
 
-module _ (b : Bytes) (table : List ℕ) (bytes : AreBytes b) (long : length table ≡ tableSize) (f : Filled) (h : fillFile b table ≡ ok f) where
+module _ {b : Bytes} {r : FileTable} {p : Place} (bytes : AreBytes b) (t : Tabled b r) (h : r .read ≡ place.Read p) where
   -- The schemas of the file are those of the table.
-  pub schemas-of : readSchemas b ≡ ok (schemasIn 0 (f .schemas) (f .table))
-  schemas-of = schemas-read b table bytes long f h
+  pub schemas-of : readSchemas b ≡ ok (schemasIn 0 (p .schemas) (r .table))
+  schemas-of = schemas-read b blank bytes blank-long (placed p (r .table)) (tabled-read t h)
 
   -- The table is sound.
-  pub sound-of : Sound (f .table) (f .schemas)
+  pub sound-of : Sound (r .table) (p .schemas)
   unfolding readSchemas
   sound-of =
-      let (t, e, g) = bind-ok (fileOf b) (λ t. ok (schemasOf t)) (schemasIn 0 (f .schemas) (f .table)) schemas-of in
+      let (t, e, g) = bind-ok (fileOf b) (λ t. ok (schemasOf t)) (schemasIn 0 (p .schemas) (r .table)) schemas-of in
       let good : WellFormed t = file-of-iff b t bytes .0 e .1 in
-      let says : schemasOf t ≡ schemasIn 0 (f .schemas) (f .table) = ok-ok g in
-      let n : f .schemas ≡ length (schemasOf t) = same-count t good (f .schemas) (f .table) says in
+      let says : schemasOf t ≡ schemasIn 0 (p .schemas) (r .table) = ok-ok g in
+      let n : p .schemas ≡ length (schemasOf t) = same-count t good (p .schemas) (r .table) says in
       record {
         top = omega (arith, n, schemas-length t);
         all = omega (arith, n, schemas-length t, schemas-few good);
-        few = λ k l. slots-of b table bytes long f h k l .few;
-        inside = λ k l. slots-of b table bytes long f h k l .inside;
-        total = same-total t good (f .schemas) (f .table) says;
-        once = same-child t good (f .schemas) (f .table) says;
+        few = λ k l. slots k l .few;
+        inside = λ k l. slots k l .inside;
+        total = same-total t good (p .schemas) (r .table) says;
+        once = same-child t good (p .schemas) (r .table) says;
       }
+    where
+      slots : (k : ℕ) → k < p .schemas → Slots (startIn (getD (r .table) (schemaSlot k) 0)) (countIn (getD (r .table) (schemaSlot k) 0)) (p .schemas)
+      slots k l = slots-of b blank bytes blank-long (placed p (r .table)) (tabled-read t h) k l

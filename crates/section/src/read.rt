@@ -23,7 +23,7 @@ use crate::table::put_row;
 use crate::ways::Way;
 use crate::ways::way_over;
 use schema::reader::PlaceRead;
-use schema::reader::read_file;
+use schema::reader::read_table;
 use wire::LIMIT;
 use wire::bytes::copy_numbers;
 use wire::error::Error;
@@ -305,12 +305,10 @@ pub fn read_section(file: &[u8], section: &[u8], table: &mut [u32]) -> RowsRead
             input: Input::Section,
         });
     }
-    let mut slots = [0u64; 512];
-    match read_file(file, &mut slots) {
+    let found = read_table(file);
+    let read = found.read;
+    match read {
         PlaceRead::Refused(e) => refuse(e, Input::Schema),
-        PlaceRead::Read(p) => {
-            let schemas = p.schemas;
-            read_rows(&slots, schemas, section, table)
-        }
+        PlaceRead::Read(p) => read_rows(&found.table, p.schemas, section, table),
     }
 }

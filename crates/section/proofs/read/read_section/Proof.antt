@@ -1,15 +1,8 @@
 -- The sizes, the schema file, and then its rows.
 -- Assumes nothing.
-use Prim.Native.Nat.{ℕ}
-use mathlib.Core.Path.{_≡_, sym, ap, _∙_}
-use mathlib.Core.List.{List}
-use native.Mathlib.Omega.{arith}
-use lib.ListN.{length, replicate, length-replicate}
-use Rattle.wire.specs.Read.{ok, refused}
-use Rattle.schema.specs.declared.reader.PlaceRead.{PlaceRead}
-use Rattle.schema.specs.Filling.{fillFile}
-use Rattle.schema.specs.Told.{placed, toldPlace}
-use Rattle.schema.proofs.Questions.{schemas-refused}
+use mathlib.Core.Path.{ap, _∙_}
+use lib.ListN.{length}
+use Rattle.schema.proofs.Questions.{tabled-refused}
 use Rattle.section.proofs.Sound.{schemas-of, sound-of}
 use Rattle.section.proofs.Listing.{listed-error, length-after, file-large, section-large, file-refused, file-read}
 use borrow.Author.Needs.{needs}
@@ -24,26 +17,20 @@ returns-2 c = listed-error _ _ _ (section-large _ _ _ (c .before .if1 .left) (c 
 
 read-rows-requires : tie.Need-read-rows-requires
 read-rows-requires c κs =
-    let args = c .before .before .before .before .before .before .before .before .before .before .before .before .args in
     let shared-slice-known = c .before .before .before .before .before .before .before .before .before .before .before .shared-slice-known in
     let if2 = c .before .before .before .before .before .before .before .if2 in
-    let read-file = c .before .before .before .before .before .read-file in
-    let p = c .before .before .before .p in
-    let exit : List ℕ = read-file .last .1 .0 in
-    let h : fillFile (args .file .now) (replicate 512 0) ≡ ok (placed (p .given .0 .0) exit) = sym (read-file .ensures .answers) ∙ ap (λ (r : PlaceRead). toldPlace r exit) (p .given .1) in
-    (sound-of (args .file .now) (replicate 512 0) (λ i. shared-slice-known .given i .fits) (length-replicate {A = ℕ} 512 0) _ h, if2 .left)
+    let read-table = c .before .before .before .before .before .before .read-table in
+    let p = c .before .before .before .before .read2 in
+    (sound-of (λ i. shared-slice-known .given i .fits) (read-table .ensures) (p .given .1), if2 .left)
 
 returns-3 : tie.Need-returns-3
 returns-3 c =
-    let args = c .before .before .before .before .before .before .before .before .before .before .before .args in
-    let shared-slice-known = c .before .before .before .before .before .before .before .before .before .before .shared-slice-known in
-    let if1 = c .before .before .before .before .before .before .before .if1 in
-    let if2 = c .before .before .before .before .before .before .if2 in
-    let read-file = c .before .before .before .before .read-file in
-    let e = c .before .before .e in
-    let exit : List ℕ = read-file .last .1 .0 in
-    let h : fillFile (args .file .now) (replicate 512 0) ≡ refused (e .given .0 .0) = sym (read-file .ensures .answers) ∙ ap (λ (r : PlaceRead). toldPlace r exit) (e .given .1) in
-    rw (c .refuse .ensures) (listed-error _ _ _ (file-refused _ _ _ (if1 .left) (if2 .left) (e .given .0 .0) (schemas-refused (args .file .now) (replicate 512 0) (λ i. shared-slice-known .given i .fits) (length-replicate {A = ℕ} 512 0) (e .given .0 .0) h)))
+    let shared-slice-known = c .before .before .before .before .before .before .before .before .before .shared-slice-known in
+    let if1 = c .before .before .before .before .before .before .if1 in
+    let if2 = c .before .before .before .before .before .if2 in
+    let read-table = c .before .before .before .before .read-table in
+    let e = c .before .before .read in
+    rw (c .refuse .ensures) (listed-error _ _ _ (file-refused _ _ _ (if1 .left) (if2 .left) (e .given .0 .0) (tabled-refused (read-table .ensures) (λ i. shared-slice-known .given i .fits) (e .given .1))))
 
 same-length : tie.Need-same-length
 same-length c =
@@ -52,16 +39,13 @@ same-length c =
 
 returns-4 : tie.Need-returns-4
 returns-4 c =
-    let args = c .before .before .before .before .before .before .before .before .before .before .before .before .before .before .before .args in
     let shared-slice-known = c .before .before .before .before .before .before .before .before .before .before .before .before .before .before .shared-slice-known in
     let if1 = c .before .before .before .before .before .before .before .before .before .before .before .if1 in
     let if2 = c .before .before .before .before .before .before .before .before .before .before .if2 in
-    let read-file = c .before .before .before .before .before .before .before .before .read-file in
-    let p = c .before .before .before .before .before .before .p in
+    let read-table = c .before .before .before .before .before .before .before .before .before .read-table in
+    let p = c .before .before .before .before .before .before .before .read2 in
     let read-rows = c .before .before .read-rows in
-    let exit : List ℕ = read-file .last .1 .0 in
-    let h : fillFile (args .file .now) (replicate 512 0) ≡ ok (placed (p .given .0 .0) exit) = sym (read-file .ensures .answers) ∙ ap (λ (r : PlaceRead). toldPlace r exit) (p .given .1) in
-    rw (file-read _ _ _ (if1 .left) (if2 .left) _ (schemas-of (args .file .now) (replicate 512 0) (λ i. shared-slice-known .given i .fits) (length-replicate {A = ℕ} 512 0) _ h)) (read-rows .ensures)
+    rw (file-read _ _ _ (if1 .left) (if2 .left) _ (schemas-of (λ i. shared-slice-known .given i .fits) (read-table .ensures) (p .given .1))) (read-rows .ensures)
 
 pub read-section-spec : {M : Type 1} → statement M
 read-section-spec =
