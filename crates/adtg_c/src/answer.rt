@@ -9,7 +9,7 @@ use wire::error::Error;
 use wire::output::Written;
 
 // Five numbers as an answer, and zeros.
-pub fn tell(a: usize, b: usize, c: usize, d: usize, e: usize) -> [u64; 16]
+pub(crate) fn tell(a: usize, b: usize, c: usize, d: usize, e: usize) -> [u64; 16]
     ensures { λ r. ⌜ r ≡ padded (a ∷ b ∷ c ∷ d ∷ e ∷ []) ⌝ }
 {
     [
@@ -33,7 +33,7 @@ pub fn tell(a: usize, b: usize, c: usize, d: usize, e: usize) -> [u64; 16]
 }
 
 // The answer of a call that is refused.
-pub fn refuse(e: Error, out: &mut [u64; 16]) -> u32
+pub(crate) fn refuse(e: Error, out: &mut [u64; 16]) -> u32
     ensures { λ r. ⌜ Answered noValues (refused e) r (now (out .exit)) ⌝ }
 {
     let kind = e.kind;
@@ -60,7 +60,7 @@ pub fn refuse(e: Error, out: &mut [u64; 16]) -> u32
 }
 
 // The answer of a writer.
-pub fn answer_written(w: Written, out: &mut [u64; 16]) -> u32
+pub(crate) fn answer_written(w: Written, out: &mut [u64; 16]) -> u32
     ensures { λ r. ⌜ Answered sizeValues (toldWritten w) r (now (out .exit)) ⌝ }
 {
     match w {

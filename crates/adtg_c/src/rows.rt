@@ -27,7 +27,7 @@ use row::updates::UpdateLookUp;
 use wire::integer::IntRead;
 
 // The answer of a call that gives one number.
-pub fn answer_int(read: IntRead, out: &mut [u64; 16]) -> u32
+pub(crate) fn answer_int(read: IntRead, out: &mut [u64; 16]) -> u32
     ensures { λ r. ⌜ Answered sizeValues (toldInt read) r (now (out .exit)) ⌝ }
 {
     match read {

@@ -27,7 +27,7 @@ pub enum FieldRead {
 }
 
 // The length in front of a field of variable length.
-pub fn length_at(column: Column, row: &[u8], at: usize) -> IntRead
+fn length_at(column: Column, row: &[u8], at: usize) -> IntRead
     ensures { λ r. ⌜ toldInt r ≡ readInt (now (row .entry)) at (prefixSize column) ⌝ }
 {
     if column.prefix_size() == 1 {
@@ -38,7 +38,7 @@ pub fn length_at(column: Column, row: &[u8], at: usize) -> IntRead
 }
 
 // The field of `width` bytes at `at`, after so many prefixes.
-pub fn bytes_at(row: &[u8], at: usize, width: usize, prefixes: usize) -> FieldRead
+fn bytes_at(row: &[u8], at: usize, width: usize, prefixes: usize) -> FieldRead
     ensures { λ r. ⌜ toldField r ≡ bytesAt (now (row .entry)) at width prefixes ⌝ }
 {
     if lacks(row.len(), at, width) {
@@ -56,7 +56,7 @@ pub fn bytes_at(row: &[u8], at: usize, width: usize, prefixes: usize) -> FieldRe
 }
 
 // The field of variable length whose prefix stands at `at`.
-pub fn variable_at(column: Column, row: &[u8], at: usize) -> FieldRead
+fn variable_at(column: Column, row: &[u8], at: usize) -> FieldRead
     ensures { λ r. ⌜ toldField r ≡ variableAt column (now (row .entry)) at ⌝ }
 {
     match length_at(column, row, at) {

@@ -13,7 +13,7 @@ use wire::error::ErrorKind;
 use wire::error::Input;
 
 // Whether two plans are the same.
-pub fn same(a: Plan, b: Plan) -> bool
+fn same(a: Plan, b: Plan) -> bool
     ensures { λ r. ⌜ (r ≡ true → a ≡ b) × (a ≡ b → r ≡ true) ⌝ }
 {
     let mut i = 0;

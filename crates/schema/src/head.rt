@@ -88,7 +88,7 @@ fn chapter_head(file: &[u8], at: usize) -> HeadRead
 }
 
 // The column whose type code stands at `at`.
-pub fn head_at(file: &[u8], at: usize) -> HeadRead
+pub(crate) fn head_at(file: &[u8], at: usize) -> HeadRead
     ensures { λ r. ⌜ toldHead r ≡ headAt (now (file .entry)) at ⌝ }
 {
     match number_at(file, at) {

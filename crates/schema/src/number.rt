@@ -15,7 +15,7 @@ pub enum NumberRead {
 }
 
 // The number at `at`.
-pub fn number_at(file: &[u8], at: usize) -> NumberRead
+pub(crate) fn number_at(file: &[u8], at: usize) -> NumberRead
     ensures { λ r. ⌜ toldNumber r ≡ numberAt (now (file .entry)) at ⌝ }
 {
     if file.len() <= at {
@@ -82,7 +82,7 @@ pub fn number_at(file: &[u8], at: usize) -> NumberRead
 }
 
 // The number at `at`, which is to lie in a range.
-pub fn range_at(file: &[u8], at: usize, low: usize, high: usize) -> NumberRead
+pub(crate) fn range_at(file: &[u8], at: usize, low: usize, high: usize) -> NumberRead
     ensures { λ r. ⌜ toldNumber r ≡ rangeAt low high (now (file .entry)) at ⌝ }
 {
     match number_at(file, at) {
