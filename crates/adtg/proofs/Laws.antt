@@ -13,11 +13,10 @@ use Rattle.wire.specs.Read.{Bytes, AreBytes, Read, ok, bad, refused, _>>=_, che
 use Rattle.wire.proofs.Pieces.{bad-ok, bind-ok, check-ok, about-ok, ok-ok}
 use Rattle.column.specs.declared.column.Column.{Column}
 use Rattle.column.specs.declared.columns.Columns.{Columns}
-use Rattle.column.specs.Layout.{layout, columnsIn}
+use Rattle.column.specs.Layout.{mostColumns, layout, columnsIn}
 use Rattle.schema.specs.declared.file.Found.{Found}
 use Rattle.schema.specs.declared.file.Found.the-variants as found
 use Rattle.schema.specs.declared.file.ColumnsRead.{ColumnsRead}
-use Rattle.schema.specs.Tree.{mostColumns}
 use Rattle.schema.specs.Reader.{fileOf}
 use Rattle.schema.specs.Schemas.{Schema, schema, asColumn, schemasOf, readSchemas, schemaAt}
 use Rattle.schema.specs.Questions.{withSchema, Selected, selected, selectedOf, columnsOf, toldFound}

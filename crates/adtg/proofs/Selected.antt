@@ -9,7 +9,8 @@ use Rattle.wire.specs.declared.error.Input.the-variants as input
 use Rattle.wire.specs.Read.{Bytes, AreBytes, Read, ok, bad, _>>=_, about, sized}
 use Rattle.wire.proofs.Pieces.{bind-ok, ok-ok}
 use Rattle.column.specs.declared.column.Column.{Column}
-use Rattle.schema.specs.Tree.{mostColumns, mostFlags, mostMaximum}
+use Rattle.column.specs.Layout.{mostColumns}
+use Rattle.schema.specs.Tree.{mostFlags, mostMaximum}
 use Rattle.schema.specs.Schemas.{Entry, asColumn}
 use Rattle.schema.specs.Questions.{alone, Selected, selectedOf}
 use Rattle.schema.proofs.SchemaLists.{EntryRange, EntriesRange, no-entry, an-entry}

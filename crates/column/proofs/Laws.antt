@@ -22,7 +22,7 @@ use Rattle.column.specs.declared.column.Column.{Column}
 use Rattle.column.specs.declared.field.Field.{Field}
 use Rattle.column.specs.declared.types.Kind.{Kind}
 use Rattle.column.specs.declared.types.Kind.the-variants.{Fixed, Variable, Wide, Chapter, Unknown}
-use Rattle.column.specs.Types.{Entry, types, kindIn, kindOf, variableKind, chapterKind}
+use Rattle.column.specs.Types.{chapterCode, Entry, types, kindIn, kindOf, variableKind, chapterKind}
 use Rattle.column.specs.Columns.{kind, width, isVariable, isChapter, prefixSize, prefixBytes, lengthErrorOf, lengthError}
 use Rattle.column.specs.Fields.{field, allowed, bytesAt, variableAt, fieldAt}
 
@@ -94,12 +94,12 @@ apart-not f (e ∷ es) code u h = go (eqb code (e .code)) (f (e .kind)) refl h (
 
 module _ (c : Column) where
   -- a chapter by its code
-  pub chapter-code : eqb (c .code) 0x88 ≡ isChapter c
+  pub chapter-code : eqb (c .code) chapterCode ≡ isChapter c
   unfolding kindOf kindIn types apart
-  chapter-code = go (eqb (c .code) 0x88) refl
+  chapter-code = go (eqb (c .code) chapterCode) refl
     where
-      go : (t : Bool) → eqb (c .code) 0x88 ≡ t → t ≡ isChapter c
-      go true e = rw (eqb-true (c .code) 0x88 e) refl
+      go : (t : Bool) → eqb (c .code) chapterCode ≡ t → t ≡ isChapter c
+      go true e = rw (eqb-true (c .code) chapterCode e) refl
       go false e = sym (apart-not chapterKind types (c .code) refl (rw e refl))
 
   -- a type of variable length by its code

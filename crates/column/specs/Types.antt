@@ -8,6 +8,10 @@ use Rattle.wire.specs.Read.{pick}
 use Rattle.column.specs.declared.types.Kind.{Kind}
 use Rattle.column.specs.declared.types.Kind.the-variants.{Fixed, Variable, Wide, Chapter, Unknown}
 
+-- the code of a chapter
+abbrev pub chapterCode : ℕ
+chapterCode = 0x88
+
 pub record Entry : Type 0 where
   pub code : ℕ
   pub kind : Kind
@@ -21,7 +25,7 @@ types =
     entry 0x02 (Fixed 2) ∷ entry 0x03 (Fixed 4) ∷ entry 0x04 (Fixed 4) ∷ entry 0x05 (Fixed 8) ∷ entry 0x06 (Fixed 8) ∷ entry 0x07 (Fixed 8)
     ∷ entry 0x0A (Fixed 4) ∷ entry 0x0B (Fixed 2) ∷ entry 0x0E (Fixed 16) ∷ entry 0x10 (Fixed 1) ∷ entry 0x11 (Fixed 1)
     ∷ entry 0x12 (Fixed 2) ∷ entry 0x13 (Fixed 4) ∷ entry 0x14 (Fixed 8) ∷ entry 0x15 (Fixed 8) ∷ entry 0x48 (Fixed 16)
-    ∷ entry 0x85 (Fixed 6) ∷ entry 0x86 (Fixed 6) ∷ entry 0x80 Variable ∷ entry 0x81 Variable ∷ entry 0x82 Wide ∷ entry 0x88 Chapter ∷ []
+    ∷ entry 0x85 (Fixed 6) ∷ entry 0x86 (Fixed 6) ∷ entry 0x80 Variable ∷ entry 0x81 Variable ∷ entry 0x82 Wide ∷ entry chapterCode Chapter ∷ []
 
 unfoldable pub kindIn : List Entry → ℕ → Kind
 kindIn [] code = Unknown

@@ -13,9 +13,10 @@ use Rattle.wire.specs.Read.{Bytes, AreBytes, Read, ok, bad, _>>=_, check, sized
 use Rattle.wire.proofs.Pieces.{ok-ok, bind-ok, bytes-drop, bind-same, bind-bind}
 use Rattle.column.specs.declared.types.Kind.{Kind}
 use Rattle.column.specs.declared.types.Kind.the-variants.{Fixed, Variable, Wide, Chapter, Unknown}
-use Rattle.column.specs.Types.{kindOf}
+use Rattle.column.specs.Types.{chapterCode, kindOf}
 use Rattle.schema.specs.Numbers.{Found, found, numberAt, allGroups}
-use Rattle.schema.specs.Tree.{mostColumns, mostFileColumns, mostDepth, mostFlags, mostMaximum, chapterCode, Tree, none, columns, nestedCounts, counts, chapters, member}
+use Rattle.column.specs.Layout.{mostColumns}
+use Rattle.schema.specs.Tree.{mostFileColumns, mostDepth, mostFlags, mostMaximum, Tree, none, columns, nestedCounts, counts, chapters, member}
 use Rattle.schema.specs.Reader.{State, stateAt, Got, got, seeing, readNumber, readRange, Node, fieldNode, chapterNode, attach, readFixed, readVariable, readChapter, readKind, readColumn, readColumns, readSchema, ended, readFile, fileOf}
 use Rattle.schema.specs.Schemas.{Schema, readSchemas}
 use Rattle.schema.specs.Table.{tableSize, packed, layColumns, laySchema, layFile, idsFrom, idsIn, schemasIn}

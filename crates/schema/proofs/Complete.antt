@@ -9,9 +9,10 @@ use borrow.Author.Tests.{le-leb}
 use Rattle.wire.specs.Read.{Bytes, Read, ok, check}
 use Rattle.column.specs.declared.types.Kind.{Kind}
 use Rattle.column.specs.declared.types.Kind.the-variants.{Fixed, Variable, Wide, Chapter, Unknown}
-use Rattle.column.specs.Types.{kindOf, variableKind}
+use Rattle.column.specs.Types.{chapterCode, kindOf, variableKind}
 use Rattle.schema.specs.Numbers.{numberLimit, groups, allGroups}
-use Rattle.schema.specs.Tree.{mostColumns, mostFileColumns, mostFlags, mostMaximum, chapterCode, Tree, none, field, chapter, columns, columnNumbers, numbers, encode, ids, nestedCounts, counts, depth, member, Distinct, Count, Right, no-column, fixed-field, variable-field, a-chapter, WellFormed}
+use Rattle.column.specs.Layout.{mostColumns}
+use Rattle.schema.specs.Tree.{mostFileColumns, mostFlags, mostMaximum, Tree, none, field, chapter, columns, columnNumbers, numbers, encode, ids, nestedCounts, counts, depth, member, Distinct, Count, Right, no-column, fixed-field, variable-field, a-chapter, WellFormed}
 use Rattle.schema.specs.Reader.{State, Got, got, readNumber, readRange, readFixed, readVariable, readChapter, readKind, readColumn, readColumns, readSchema, ended, readFile}
 use Rattle.schema.proofs.NumberForms.{number-complete}
 use Rattle.schema.proofs.Lists.{groups-append, append-nil, distinct-before, distinct-front, joins, fixed-code, variable-code, maximum-variable, chapter-kind}

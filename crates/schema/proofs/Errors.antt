@@ -15,7 +15,8 @@ use Rattle.column.specs.declared.types.Kind.{Kind}
 use Rattle.column.specs.declared.types.Kind.the-variants.{Fixed, Variable, Wide, Chapter, Unknown}
 use Rattle.column.specs.Types.{kindOf}
 use Rattle.schema.specs.Numbers.{Number, thirdGroup, secondGroup, numberIn}
-use Rattle.schema.specs.Tree.{mostColumns, mostDepth, mostFlags, mostMaximum, Tree}
+use Rattle.column.specs.Layout.{mostColumns}
+use Rattle.schema.specs.Tree.{mostDepth, mostFlags, mostMaximum, Tree}
 use Rattle.schema.specs.Reader.{State, Got, counting, seeing, readNumber, readRange, Node, readFixed, readVariable, readChapter, readKind, readColumn, readColumns, readSchema, ended, readFile}
 
 -- An error of an input of n bytes: its code and its offset.

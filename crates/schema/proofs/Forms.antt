@@ -17,7 +17,8 @@ use Rattle.column.specs.declared.types.Kind.{Kind}
 use Rattle.column.specs.declared.types.Kind.the-variants.{Fixed, Variable, Wide, Chapter, Unknown}
 use Rattle.column.specs.Types.{kindOf}
 use Rattle.schema.specs.Numbers.{numberLimit, groups, Number, number, thirdGroup, secondGroup, numberIn}
-use Rattle.schema.specs.Tree.{mostColumns, mostFileColumns, mostDepth, mostFlags, mostMaximum, Tree, member}
+use Rattle.column.specs.Layout.{mostColumns}
+use Rattle.schema.specs.Tree.{mostFileColumns, mostDepth, mostFlags, mostMaximum, Tree, member}
 use Rattle.schema.specs.Reader.{State, stateAt, Got, got, beyond, counting, seeing, readNumber, readRange, readFixed, readVariable, readChapter, readKind, readColumn, readColumns, readSchema, ended, readFile}
 use Rattle.schema.specs.Writer.{noNumber, codedNumber, coded, inRange, ofNumbers, fileWritten}
 use Rattle.schema.proofs.Lists.{append-nil}

@@ -6,7 +6,8 @@ use mathlib.Core.List.{List, [], _∷_, _++_}
 use native.Mathlib.Omega.{arith}
 use lib.ListN.{length, getD, set, length-set}
 use lib.Seq.{getD-set-same, getD-set-other}
-use Rattle.schema.specs.Tree.{mostFileColumns, chapterCode, Tree, none, field, chapter, columns, nestedCounts, counts, chapters, WellFormed}
+use Rattle.column.specs.Types.{chapterCode}
+use Rattle.schema.specs.Tree.{mostFileColumns, Tree, none, field, chapter, columns, nestedCounts, counts, chapters, WellFormed}
 use Rattle.schema.specs.Schemas.{Entry, entry, Schema, schema, ownColumns, nestedSchemas, schemasOf, schemaCount}
 use Rattle.schema.specs.Table.{tableSize, schemaSlot, packed, slotOf, block, layColumns, layFile}
 use Rattle.schema.proofs.SchemaLists.{own-length, nested-length, schemas-few}

@@ -14,9 +14,10 @@ use Rattle.wire.specs.declared.error.Input.the-variants.{Single}
 use Rattle.wire.specs.Read.{Bytes, Read, ok, bad, check, limit}
 use Rattle.wire.proofs.Laws.{sized-over, sized-within}
 use Rattle.column.specs.declared.types.Kind.the-variants.{Fixed, Variable, Wide, Chapter, Unknown}
-use Rattle.column.specs.Types.{kindOf}
+use Rattle.column.specs.Types.{chapterCode, kindOf}
 use Rattle.schema.specs.Numbers.{Found, found, thirdAt, secondAt, numberAt}
-use Rattle.schema.specs.Tree.{mostColumns, mostFileColumns, mostDepth, mostFlags, mostMaximum, chapterCode, member}
+use Rattle.column.specs.Layout.{mostColumns}
+use Rattle.schema.specs.Tree.{mostFileColumns, mostDepth, mostFlags, mostMaximum, member}
 use Rattle.schema.specs.Reader.{readFile, fileOf}
 use Rattle.schema.specs.Schemas.{Schema, schemaAt, columnsOf, columnAt, numberFrom, childNumber}
 use Rattle.schema.specs.Table.{schemaSlot, packed, startIn, countIn, idIn, idsFrom, idsIn, entryIn, entriesIn, schemaIn, schemasIn}

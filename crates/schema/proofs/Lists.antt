@@ -10,9 +10,9 @@ use borrow.Author.Tests.{eqb-true, eqb-false, ne-eqb}
 use Rattle.wire.specs.Read.{Bytes, AreBytes, pick}
 use Rattle.column.specs.declared.types.Kind.{Kind}
 use Rattle.column.specs.declared.types.Kind.the-variants.{Fixed, Variable, Wide, Chapter, Unknown}
-use Rattle.column.specs.Types.{Entry, types, kindIn, kindOf, variableKind}
+use Rattle.column.specs.Types.{chapterCode, Entry, types, kindIn, kindOf, variableKind}
 use Rattle.schema.specs.Numbers.{groups, allGroups}
-use Rattle.schema.specs.Tree.{chapterCode, maximumOf, member, Distinct, no-number, new}
+use Rattle.schema.specs.Tree.{maximumOf, member, Distinct, no-number, new}
 
 pub groups-append : (x y : List ℕ) → allGroups (x ++ y) ≡ allGroups x ++ allGroups y
 unfolding allGroups

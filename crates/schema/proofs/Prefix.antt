@@ -15,7 +15,8 @@ use Rattle.column.specs.declared.types.Kind.{Kind}
 use Rattle.column.specs.declared.types.Kind.the-variants.{Fixed, Variable, Wide, Chapter, Unknown}
 use Rattle.column.specs.Types.{kindOf}
 use Rattle.schema.specs.Numbers.{Number, number, thirdGroup, secondGroup, numberIn}
-use Rattle.schema.specs.Tree.{mostColumns, mostFileColumns, mostDepth, mostFlags, mostMaximum, Tree, member}
+use Rattle.column.specs.Layout.{mostColumns}
+use Rattle.schema.specs.Tree.{mostFileColumns, mostDepth, mostFlags, mostMaximum, Tree, member}
 use Rattle.schema.specs.Reader.{State, stateAt, Got, got, counting, seeing, readNumber, readRange, readFixed, readVariable, readChapter, readKind, readColumn, readColumns, readSchema, ended, readFile}
 
 -- so many bytes decide: three for the top count, twelve for each column (its numbers and a nested count), and one behind

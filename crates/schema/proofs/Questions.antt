@@ -14,7 +14,9 @@ use Rattle.wire.specs.declared.error.Input.the-variants as input
 use Rattle.wire.specs.Errors.{codeOf}
 use Rattle.wire.specs.Read.{Bytes, AreBytes, Read, ok, bad, _>>=_, check, about, refused, sized}
 use Rattle.wire.proofs.Pieces.{bind-ok, ok-ok}
-use Rattle.schema.specs.Tree.{mostColumns, mostFileColumns, chapterCode, Tree, counts, chapters, WellFormed}
+use Rattle.column.specs.Layout.{mostColumns}
+use Rattle.column.specs.Types.{chapterCode}
+use Rattle.schema.specs.Tree.{mostFileColumns, Tree, counts, chapters, WellFormed}
 use Rattle.schema.specs.Reader.{readFile, fileOf}
 use mathlib.Core.Option.{Option, none, some}
 use Rattle.schema.specs.Schemas.{Entry, entry, childNumber, Schema, schema, schemasOf, readSchemas, schemaCount, columnCount, schemaAt}

@@ -13,11 +13,12 @@ use Rattle.wire.specs.declared.error.Input.{Input}
 use Rattle.wire.specs.declared.error.Input.the-variants.{Single}
 use Rattle.wire.specs.Read.{Bytes, Read, ok, bad, _>>=_, check, refused}
 use Rattle.schema.specs.declared.reader.Place.{Place}
-use Rattle.schema.specs.Tree.{mostColumns, mostFileColumns, chapterCode, Tree, none, field, chapter, columns, nestedCounts, counts, chapters, member}
+use Rattle.column.specs.Layout.{mostColumns}
+use Rattle.schema.specs.Tree.{mostFileColumns, Tree, none, field, chapter, columns, nestedCounts, counts, chapters, member}
 use Rattle.schema.specs.Table.{schemaSlot, idIn, idsFrom, idsIn, packed, block}
 use Rattle.column.specs.declared.types.Kind.{Kind}
 use Rattle.column.specs.declared.types.Kind.the-variants.{Fixed, Variable, Wide, Chapter, Unknown}
-use Rattle.column.specs.Types.{kindOf}
+use Rattle.column.specs.Types.{chapterCode, kindOf}
 use Rattle.schema.specs.Numbers.{Found, found, numberAt}
 use Rattle.schema.specs.Filling.{Filled, filled, moved, holding, rangeAt, fillFixed, fillVariable, fillChapter, fillKind, fillColumn, fillColumns, fillSchema}
 use Rattle.schema.specs.Heads.{Head, fieldHead, idHead, fixedHead, variableHead, chapterHead, headBy, headAt}

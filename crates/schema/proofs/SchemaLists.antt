@@ -6,7 +6,8 @@ use mathlib.Core.List.{List, [], _∷_, _++_, map}
 use native.Mathlib.Omega.{arith}
 use lib.ListN.{length, length-append}
 use Rattle.schema.specs.Numbers.{numberLimit}
-use Rattle.schema.specs.Tree.{mostFileColumns, mostFlags, mostMaximum, chapterCode, Tree, none, field, chapter, columns, ids, nestedCounts, counts, chapters, Count, Right, no-column, fixed-field, variable-field, a-chapter, WellFormed}
+use Rattle.column.specs.Types.{chapterCode}
+use Rattle.schema.specs.Tree.{mostFileColumns, mostFlags, mostMaximum, Tree, none, field, chapter, columns, ids, nestedCounts, counts, chapters, Count, Right, no-column, fixed-field, variable-field, a-chapter, WellFormed}
 use Rattle.schema.specs.Schemas.{Entry, entry, Schema, schema, ownColumns, nestedSchemas, schemasOf, columnCount}
 use Rattle.schema.proofs.Lists.{fixed-code, variable-code}
 

@@ -11,9 +11,10 @@ use Rattle.wire.specs.Read.{Bytes, AreBytes, Read, ok, check}
 use Rattle.wire.proofs.Pieces.{bad-ok, ok-ok, bind-ok, check-ok}
 use Rattle.column.specs.declared.types.Kind.{Kind}
 use Rattle.column.specs.declared.types.Kind.the-variants.{Fixed, Variable, Wide, Chapter, Unknown}
-use Rattle.column.specs.Types.{kindOf, variableKind}
+use Rattle.column.specs.Types.{chapterCode, kindOf, variableKind}
 use Rattle.schema.specs.Numbers.{numberLimit, groups, allGroups}
-use Rattle.schema.specs.Tree.{mostColumns, mostFileColumns, mostDepth, mostFlags, mostMaximum, chapterCode, Tree, none, chapter, columns, columnNumbers, numbers, encode, ids, nestedCounts, counts, depth, member, Distinct, no-number, Count, Right, no-column, fixed-field, variable-field, a-chapter, WellFormed}
+use Rattle.column.specs.Layout.{mostColumns}
+use Rattle.schema.specs.Tree.{mostFileColumns, mostDepth, mostFlags, mostMaximum, Tree, none, chapter, columns, columnNumbers, numbers, encode, ids, nestedCounts, counts, depth, member, Distinct, no-number, Count, Right, no-column, fixed-field, variable-field, a-chapter, WellFormed}
 use Rattle.schema.specs.Reader.{State, stateAt, Got, got, beyond, counting, seeing, readNumber, readRange, Node, fieldNode, chapterNode, attach, readFixed, readVariable, readChapter, readKind, readColumn, readColumns, readSchema, ended, readFile}
 use Rattle.schema.proofs.NumberForms.{number-sound}
 use Rattle.schema.proofs.Lists.{groups-append, append-nil, bytes-rest, distinct-snoc, chapter-code, maximum-variable}

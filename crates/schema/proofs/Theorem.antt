@@ -12,9 +12,9 @@ use borrow.Author.Tests.{ltb-true}
 use Rattle.wire.specs.Read.{Bytes, AreBytes, ok, pick, sized, limit}
 use Rattle.wire.proofs.Laws.{sized-within}
 use Rattle.wire.proofs.Pieces.{ok-ok, bind-ok}
-use Rattle.column.specs.Types.{kindOf}
+use Rattle.column.specs.Types.{chapterCode, kindOf}
 use Rattle.schema.specs.Numbers.{numberLimit, groups, allGroups}
-use Rattle.schema.specs.Tree.{chapterCode, Tree, columns, columnNumbers, numbers, encode, nestedCounts, counts, Right, no-column, fixed-field, variable-field, a-chapter, WellFormed}
+use Rattle.schema.specs.Tree.{Tree, columns, columnNumbers, numbers, encode, nestedCounts, counts, Right, no-column, fixed-field, variable-field, a-chapter, WellFormed}
 use Rattle.schema.specs.Reader.{readFile, fileOf}
 use Rattle.schema.proofs.Lists.{groups-append, bytes-append, fixed-code, variable-code, maximum-variable}
 use Rattle.schema.proofs.Sound.{file-sound}

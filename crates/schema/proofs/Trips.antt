@@ -13,9 +13,9 @@ use Rattle.wire.specs.Read.{Bytes, AreBytes, Read, ok, bad, check, about, limit
 use Rattle.wire.proofs.Laws.{fitting-fits}
 use Rattle.wire.proofs.Pieces.{bad-ok, ok-ok, bind-ok, about-ok, fitting-ok}
 use Rattle.column.specs.declared.types.Kind.{Kind}
-use Rattle.column.specs.Types.{kindOf}
+use Rattle.column.specs.Types.{chapterCode, kindOf}
 use Rattle.schema.specs.Numbers.{numberLimit, groups, allGroups, Number, number, numberIn}
-use Rattle.schema.specs.Tree.{chapterCode, Tree, columns, maximumOf, columnNumbers, numbers, encode, Right, no-column, fixed-field, variable-field, a-chapter, WellFormed}
+use Rattle.schema.specs.Tree.{Tree, columns, maximumOf, columnNumbers, numbers, encode, Right, no-column, fixed-field, variable-field, a-chapter, WellFormed}
 use Rattle.schema.specs.Reader.{readFile, fileOf}
 use Rattle.schema.specs.Writer.{codedNumber, coded, inRange, ofNumbers, fileWritten}
 use Rattle.schema.proofs.Lists.{fixed-code, variable-code, maximum-variable}

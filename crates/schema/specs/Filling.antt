@@ -11,9 +11,10 @@ use Rattle.wire.specs.declared.error.Input.the-variants.{Single}
 use Rattle.wire.specs.Read.{Bytes, Read, ok, bad, _>>=_, check, sized}
 use Rattle.column.specs.declared.types.Kind.{Kind}
 use Rattle.column.specs.declared.types.Kind.the-variants.{Fixed, Variable, Wide, Chapter, Unknown}
-use Rattle.column.specs.Types.{kindOf}
+use Rattle.column.specs.Types.{chapterCode, kindOf}
 use Rattle.schema.specs.Numbers.{Found, numberAt}
-use Rattle.schema.specs.Tree.{mostColumns, mostFileColumns, mostDepth, mostFlags, mostMaximum, chapterCode, member}
+use Rattle.column.specs.Layout.{mostColumns}
+use Rattle.schema.specs.Tree.{mostFileColumns, mostDepth, mostFlags, mostMaximum, member}
 use Rattle.schema.specs.Table.{tableSize, schemaSlot, packed, block, idsIn}
 
 -- Where the reader stands: the offset, how many columns and how many schemas have slots so far, the table.

@@ -11,7 +11,7 @@ use Rattle.wire.specs.declared.error.Input.the-variants as input
 use Rattle.wire.specs.Read.{Bytes, Read, ok, bad, _>>=_, pick, check, about, refused, sized}
 use Rattle.column.specs.declared.column.Column.{Column}
 use Rattle.column.specs.declared.columns.Columns.{Columns}
-use Rattle.column.specs.Layout.{layout}
+use Rattle.column.specs.Layout.{mostColumns, layout}
 use Rattle.schema.specs.declared.file.CountsRead.{CountsRead}
 use Rattle.schema.specs.declared.file.CountsRead.the-variants as counted
 use Rattle.schema.specs.declared.file.SizeRead.{SizeRead}
@@ -23,7 +23,8 @@ use Rattle.schema.specs.declared.file.ColumnRead.the-variants as column
 use Rattle.schema.specs.declared.file.Found.{Found}
 use Rattle.schema.specs.declared.file.Found.the-variants as found
 use Rattle.schema.specs.declared.file.ColumnsRead.{ColumnsRead}
-use Rattle.schema.specs.Tree.{mostColumns, mostFileColumns, chapterCode}
+use Rattle.column.specs.Types.{chapterCode}
+use Rattle.schema.specs.Tree.{mostFileColumns}
 use Rattle.schema.specs.Schemas.{Entry, entry, asColumn, Schema, schema, readSchemas, schemaCount, columnCount, schemaAt, childNumber}
 use Rattle.schema.specs.Table.{entriesIn, schemasIn}
 

@@ -11,7 +11,8 @@ use Rattle.column.specs.declared.types.Kind.{Kind}
 use Rattle.column.specs.declared.types.Kind.the-variants.{Fixed, Variable, Wide, Chapter, Unknown}
 use Rattle.column.specs.Types.{kindOf}
 use Rattle.schema.specs.Numbers.{Number, numberIn}
-use Rattle.schema.specs.Tree.{mostColumns, mostFileColumns, mostDepth, mostFlags, mostMaximum, Tree, none, field, chapter, member}
+use Rattle.column.specs.Layout.{mostColumns}
+use Rattle.schema.specs.Tree.{mostFileColumns, mostDepth, mostFlags, mostMaximum, Tree, none, field, chapter, member}
 
 -- Where the reader stands: what is left of the input, its offset, the counts read so far added up, the ids read so far.
 pub record State : Type 0 where

@@ -7,7 +7,8 @@ use lib.ListN.{length, getD}
 use lib.Dec.{ltb, eqb}
 use Rattle.wire.specs.Read.{Bytes, Read, ok, _>>=_, pick, check}
 use Rattle.column.specs.declared.column.Column.{Column}
-use Rattle.schema.specs.Tree.{chapterCode, Tree}
+use Rattle.column.specs.Types.{chapterCode}
+use Rattle.schema.specs.Tree.{Tree}
 use Rattle.schema.specs.Tree as tree
 use Rattle.schema.specs.Reader.{fileOf}
 

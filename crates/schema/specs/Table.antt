@@ -4,7 +4,8 @@
 use Prim.Native.Nat.{ℕ, zero, suc, _+_, _*_, _-_, _/_, _%_}
 use mathlib.Core.List.{List, [], _∷_}
 use lib.ListN.{getD, set}
-use Rattle.schema.specs.Tree.{mostFileColumns, chapterCode, Tree, none, field, chapter, columns, counts, chapters}
+use Rattle.column.specs.Types.{chapterCode}
+use Rattle.schema.specs.Tree.{mostFileColumns, Tree, none, field, chapter, columns, counts, chapters}
 use Rattle.schema.specs.Schemas.{Entry, entry, Schema, schema}
 
 -- as many slots for columns as a file may have, then as many for schemas

@@ -8,14 +8,11 @@ use lib.Dec.{eqb}
 use Rattle.wire.specs.Read.{Bytes, pick}
 use Rattle.column.specs.declared.types.Kind.{Kind}
 use Rattle.column.specs.declared.types.Kind.the-variants.{Fixed, Variable, Wide, Chapter, Unknown}
-use Rattle.column.specs.Types.{kindOf, variableKind}
+use Rattle.column.specs.Types.{chapterCode, kindOf, variableKind}
+use Rattle.column.specs.Layout.{mostColumns}
 use Rattle.schema.specs.Numbers.{numberLimit, allGroups}
 
--- The paper's limits.
--- columns of one schema, at least one
-abbrev pub mostColumns : ℕ
-mostColumns = 64
-
+-- The paper's limits, beside that of the columns of one schema (`column`, specs/Layout.antt).
 -- columns of a file
 abbrev pub mostFileColumns : ℕ
 mostFileColumns = 256
@@ -31,10 +28,6 @@ mostFlags = 1
 -- maximum length of a column of variable length, at least 1
 abbrev pub mostMaximum : ℕ
 mostMaximum = 32767
-
--- the type code of a chapter
-abbrev pub chapterCode : ℕ
-chapterCode = 0x88
 
 -- The columns of a schema, in order. A chapter holds the columns of its nested schema.
 pub data Tree : Type 0 where

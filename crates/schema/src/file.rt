@@ -8,9 +8,11 @@ ghost use lib.ListN.{length};
 ghost use Rattle.schema.specs.Schemas.{asColumn, childNumber};
 ghost use Rattle.schema.specs.Table.{tableSize, entriesIn, schemasIn};
 ghost use Rattle.schema.specs.Questions.{countsOf, toldCounts, Opening, columnCountOf, toldSize, Columned, or0, childOf, columnOf, toldColumn};
+use crate::MOST_FILE_COLUMNS;
 use crate::reader::PlaceRead;
 use crate::reader::read_file;
 use column::columns::Columns;
+use column::types::ColumnType;
 use wire::error::Error;
 use wire::error::ErrorKind;
 use wire::error::Input;
@@ -103,7 +105,7 @@ fn open_schema(file: &[u8], number: usize, table: &mut [u64; 512]) -> Opened
                     input: Input::SchemaNumber,
                 });
             }
-            let slot = table[256 + number];
+            let slot = table[MOST_FILE_COLUMNS + number];
             Opened::Block {
                 start: (slot % 65_536) as usize,
                 count: (slot / 65_536 % 65_536) as usize,
@@ -135,7 +137,7 @@ fn child_number(table: &[u64; 512], schemas: usize, id: u64) -> usize
 {
     let mut i = 1;
     while i < schemas {
-        if table[256 + i] / 4_294_967_296 == id {
+        if table[MOST_FILE_COLUMNS + i] / 4_294_967_296 == id {
             return i;
         }
         i += 1;
@@ -186,7 +188,7 @@ pub fn column_at(file: &[u8], number: usize, column: usize) -> ColumnRead
             let slot = table[start + column];
             let code = (slot % 256) as usize;
             let id = slot / 4_294_967_296;
-            if code == 136 {
+            if code == ColumnType::CHAPTER as usize {
                 let nested = child_number(&table, schemas, id);
                 return ColumnRead::Column {
                     code,

@@ -1,6 +1,8 @@
 // The numbers of one column up to a nested schema: its type code, its flags, and by type a maximum or a child id.
 ghost use mathlib.Core.Path.{_≡_};
 ghost use Rattle.schema.specs.Heads.{fixedHead, variableHead, chapterHead, headAt, toldHead};
+use crate::MOST_FLAGS;
+use crate::MOST_MAXIMUM;
 use crate::number::NumberRead;
 use crate::number::number_at;
 use crate::number::range_at;
@@ -31,7 +33,7 @@ pub enum HeadRead {
 fn fixed_head(file: &[u8], code: usize, at: usize) -> HeadRead
     ensures { λ r. ⌜ toldHead r ≡ fixedHead (now (file .entry)) code at ⌝ }
 {
-    match range_at(file, at, 0, 1) {
+    match range_at(file, at, 0, MOST_FLAGS) {
         NumberRead::Refused(e) => HeadRead::Refused(e),
         NumberRead::Number { value, end } => HeadRead::Field {
             code,
@@ -46,12 +48,12 @@ fn fixed_head(file: &[u8], code: usize, at: usize) -> HeadRead
 fn variable_head(file: &[u8], code: usize, at: usize) -> HeadRead
     ensures { λ r. ⌜ toldHead r ≡ variableHead (now (file .entry)) code at ⌝ }
 {
-    match range_at(file, at, 0, 1) {
+    match range_at(file, at, 0, MOST_FLAGS) {
         NumberRead::Refused(e) => HeadRead::Refused(e),
         NumberRead::Number {
             value: flags,
             end: after,
-        } => match range_at(file, after, 1, 32_767) {
+        } => match range_at(file, after, 1, MOST_MAXIMUM) {
             NumberRead::Refused(e) => HeadRead::Refused(e),
             NumberRead::Number {
                 value: maximum,
@@ -70,7 +72,7 @@ fn variable_head(file: &[u8], code: usize, at: usize) -> HeadRead
 fn chapter_head(file: &[u8], at: usize) -> HeadRead
     ensures { λ r. ⌜ toldHead r ≡ chapterHead (now (file .entry)) at ⌝ }
 {
-    match range_at(file, at, 0, 1) {
+    match range_at(file, at, 0, MOST_FLAGS) {
         NumberRead::Refused(e) => HeadRead::Refused(e),
         NumberRead::Number {
             value: flags,

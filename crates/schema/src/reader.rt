@@ -7,10 +7,14 @@ ghost use Rattle.schema.specs.Tree.{member};
 ghost use Rattle.schema.specs.Table.{idsIn, packed, block};
 ghost use Rattle.schema.specs.Filling.{fillColumn, fillSchema, fillFile};
 ghost use Rattle.schema.specs.Told.{placed, origin, Ready, Told, Tabled};
+use crate::MOST_DEPTH;
+use crate::MOST_FILE_COLUMNS;
 use crate::head::HeadRead;
 use crate::head::head_at;
 use crate::number::NumberRead;
 use crate::number::range_at;
+use column::columns::MOST_COLUMNS;
+use column::types::ColumnType;
 use wire::LIMIT;
 use wire::error::Error;
 use wire::error::ErrorKind;
@@ -42,7 +46,7 @@ fn is_seen(table: &[u64; 512], schemas: usize, id: u64) -> bool
 {
     let mut i = 1;
     while i < schemas {
-        if table[256 + i] / 4_294_967_296 == id {
+        if table[MOST_FILE_COLUMNS + i] / 4_294_967_296 == id {
             return true;
         }
         i += 1;
@@ -87,17 +91,17 @@ fn read_schema(
             input: Input::Single,
         });
     }
-    match range_at(file, at, 1, 64) {
+    match range_at(file, at, 1, MOST_COLUMNS) {
         NumberRead::Refused(e) => PlaceRead::Refused(e),
         NumberRead::Number { value: count, end } => {
-            if 256 < start + count {
+            if MOST_FILE_COLUMNS < start + count {
                 return PlaceRead::Refused(Error {
                     kind: ErrorKind::Limit,
                     offset: at,
                     input: Input::Single,
                 });
             }
-            table[256 + number] = block(start, count, id);
+            table[MOST_FILE_COLUMNS + number] = block(start, count, id);
             let mut here = Place {
                 at: end,
                 columns: start + count,
@@ -162,7 +166,7 @@ fn read_column(
                     input: Input::Single,
                 });
             }
-            table[slot] = packed(136, flags, 0, id);
+            table[slot] = packed(ColumnType::CHAPTER as usize, flags, 0, id);
             let next = Place {
                 at: end,
                 columns,
@@ -189,7 +193,7 @@ pub(crate) fn read_file(file: &[u8], table: &mut [u64; 512]) -> PlaceRead
         columns: 0,
         schemas: 0,
     };
-    match read_schema(file, 4, 0, start, table) {
+    match read_schema(file, MOST_DEPTH, 0, start, table) {
         PlaceRead::Refused(e) => PlaceRead::Refused(e),
         PlaceRead::Read(p) => {
             let at = p.at;

@@ -7,7 +7,7 @@ use lib.ListN.{length-replicate}
 use borrow.Author.Tests.{eq-eqb, ne-eqb}
 use Rattle.wire.specs.Read.{Bytes, Read, ok, refused}
 use Rattle.schema.specs.declared.file.Opened.{Opened}
-use Rattle.schema.specs.Tree.{chapterCode}
+use Rattle.column.specs.Types.{chapterCode}
 use Rattle.schema.specs.Schemas.{childNumber}
 use Rattle.schema.specs.Table.{schemasIn, entryIn, entriesIn}
 use Rattle.schema.specs.Questions.{Slots, selectedOf, selected, toldOpened, columnOf}
@@ -44,6 +44,7 @@ column-at-spec =
     (λ c. let s : Slots (c .before .before .start .given .0 .0) (c .before .before .start .given .0 .1 .0) (c .before .before .start .given .0 .1 .1 .0) = rw (c .before .before .start .given .1) at (c .before .before .before .before .open-schema .ensures .slots) in omega (arith, s .inside, c .if1 .left))
     (λ c. let s : Slots (c .before .before .start .given .0 .0) (c .before .before .start .given .0 .1 .0) (c .before .before .start .given .0 .1 .1 .0) = rw (c .before .before .start .given .1) at (c .before .before .before .before .open-schema .ensures .slots) in omega (arith, s .inside, c .if1 .left))
     (λ c. let s : Slots (c .before .before .start .given .0 .0) (c .before .before .start .given .0 .1 .0) (c .before .before .start .given .0 .1 .1 .0) = rw (c .before .before .start .given .1) at (c .before .before .before .before .open-schema .ensures .slots) in omega (arith, s .inside, c .if1 .left))
+    (λ c. search needs)
     child-number-requires
     returns-2
     returns-3

@@ -399,6 +399,7 @@ pub +read-column+read-schema-spec : {M : Type 1} → statement M
     (λ c. search needs)
     (read-column-is-seen-requires t)
     (read-column-returns t)
+    (λ c. search needs)
     (read-column-packed-requires-2 t)
     (λ c. omega (arith, c .before .before .before .before .before .before .before .before .before .pre .1 .0 .room, c .before .before .before .before .before .before .before .before .before .pre .1 .1))
     (λ c. omega (arith, c .before .before .before .before .before .before .before .before .before .pre .1 .0 .room, c .before .before .before .before .before .before .before .before .before .pre .1 .1))
