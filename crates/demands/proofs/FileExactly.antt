@@ -21,7 +21,8 @@ use Rattle.column.specs.declared.types.Kind.the-variants.{Fixed, Variable, Wide
 use Rattle.column.specs.declared.column.Column.{Column}
 use Rattle.column.specs.Types.{kindOf, variableKind}
 use Rattle.schema.specs.Numbers.{numberLimit, thirdGroup, secondGroup, numberIn}
-use Rattle.schema.specs.Tree.{mostColumns, mostFileColumns, mostDepth, mostFlags, mostMaximum, Tree, numbers, member}
+use Rattle.column.specs.Layout.{mostColumns}
+use Rattle.schema.specs.Tree.{mostFileColumns, mostDepth, mostFlags, mostMaximum, Tree, numbers, member}
 use Rattle.schema.specs.Reader.{State, stateAt, Got, counting, seeing, readNumber, readRange, readFixed, readVariable, readChapter, readKind, readColumn, readColumns, readSchema, ended, readFile, fileOf}
 use Rattle.schema.specs.Schemas.{Entry, asColumn, Schema, schema, schemasOf, readSchemas, schemaAt, columnsOf, numberFrom, childNumber}
 use Rattle.schema.specs.Questions.{alone, withSchema, countsOf, columnCountOf, foundChild, childOf, entryAt, columnOf}

@@ -11,7 +11,8 @@ use Rattle.column.specs.declared.column.Column.{Column}
 use Rattle.column.specs.declared.types.Kind.the-variants.{Chapter, Unknown}
 use Rattle.column.specs.Types.{kindOf, variableKind}
 use Rattle.schema.specs.Numbers.{numberLimit}
-use Rattle.schema.specs.Tree.{mostColumns, mostFileColumns, mostDepth, mostFlags, mostMaximum, Tree, numbers, member}
+use Rattle.column.specs.Layout.{mostColumns}
+use Rattle.schema.specs.Tree.{mostFileColumns, mostDepth, mostFlags, mostMaximum, Tree, numbers, member}
 use Rattle.schema.specs.Reader.{State, stateAt, Got, counting, seeing, Node, readNumber, readRange, readColumn, readSchema, fileOf}
 use Rattle.schema.specs.Schemas.{Schema, schema, readSchemas}
 use Rattle.schema.specs.Writer.{coded}
