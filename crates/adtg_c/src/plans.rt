@@ -1,14 +1,13 @@
 // Plans: made and compared with a schema file, places, and look-up through a plan. A look-up is lent the numbers of the plan, so that
 // no call copies them.
 ghost use mathlib.Core.Path.{_≡_};
-ghost use Prim.Native.Nat.{_<_};
-ghost use Rattle.wire.specs.Read.{toldMatch, limit};
+ghost use Rattle.wire.specs.Read.{toldMatch};
 ghost use Rattle.row.specs.Told.{toldLookUp};
 ghost use Rattle.plan.specs.Plans.{plannedRow, fixedPlace};
-ghost use Rattle.plan.specs.Handles.{openedRow, handled};
+ghost use Rattle.plan.specs.Handles.{openedRow};
 ghost use Rattle.plan.specs.Lent.{lent};
 ghost use Rattle.plan.specs.Told.{toldPlace};
-ghost use Rattle.adtg.specs.Plans.{planIn, toldPlan};
+ghost use Rattle.adtg.specs.Plans.{planIn};
 ghost use Rattle.adtg_c.specs.Answers.{Answered, sizeValues};
 ghost use Rattle.adtg_c.specs.PlanAnswers.{planAnswer, foundAnswer, placeValues, unitValues, CheckTold};
 use crate::answer::refuse;
@@ -19,7 +18,7 @@ use adtg::plans::check_plan;
 use adtg::plans::make_plan;
 use plan::fixed::PlaceRead;
 use plan::fixed::fixed_place;
-use plan::look::from_lent;
+use plan::look::look_lent;
 use plan::look::open_row;
 use plan::plan::Plan;
 use row::rows::LookUp;
@@ -172,17 +171,14 @@ fn found_answer(answer: LookUp) -> FoundAnswer
     }
 }
 
-// What a row that was opened at `start` has at a column, by a plan whose numbers are lent. A start over the limit of a row's size is
-// that of a row that was not opened.
+// What a row has at a column, by a plan whose numbers are lent.
 #[no_mangle]
 pub extern "C" fn adtg_planned_look_up(
     plan: &[usize; 131],
-    start: usize,
     row: &[u8],
     column: usize,
 ) -> FoundAnswer
-    ensures opened { λ r. ⌜ r ≡ foundAnswer (handled (lent (now (plan .entry))) start (now (row .entry)) column) ⌝ }
-    ensures direct { λ r. ⌜ (limit < start → r ≡ foundAnswer (plannedRow (lent (now (plan .entry))) (now (row .entry)) column)) ⌝ }
+    ensures { λ r. ⌜ r ≡ foundAnswer (plannedRow (lent (now (plan .entry))) (now (row .entry)) column) ⌝ }
 {
-    found_answer(from_lent(plan, start, row, column))
+    found_answer(look_lent(plan, row, column))
 }

@@ -17,8 +17,6 @@ use Rattle.row.specs.Rows.{Answer, field, null, chapter}
 use Rattle.row.proofs.Arrays.{rest}
 use Rattle.plan.specs.declared.plan.Plan.{Plan}
 use Rattle.plan.specs.Plans.{plannedRow}
-use Rattle.plan.specs.Handles.{handled}
-use Rattle.plan.proofs.Handled.{not-opened}
 use Rattle.plan.proofs.Inside.{row-inside}
 use Rattle.batch.specs.Spans.{rowAt, parents, ownerOf, startIn, Span, span, nullMark, chapterMark, spanOf, isRow, moved, spanIn, planned}
 use Rattle.batch.proofs.Places.{row-errors, error-inside}
@@ -59,15 +57,12 @@ moved-span from code offset i g = go (isRow i)
 
 -- a look-up in the part of a section from `from` on, as code makes it
 abbrev lookedUp : Plan → Bytes → (column from : ℕ) → Read Answer
-lookedUp p s column from = handled p 18446744073709551615 (take (length s - from) (drop from s)) column
+lookedUp p s column from = plannedRow p (take (length s - from) (drop from s)) column
 
 module _ (p : Plan) (s : Bytes) (start column from : ℕ) (f : from ≡ startIn s start) where
-  -- what it answers, a row that was not opened being looked up directly
+  -- what it answers
   looked : {r : Read Answer} → lookedUp p s column from ≡ r → plannedRow p (drop from s) column ≡ r
-  looked h =
-      ap (λ (l : Bytes). plannedRow p l column) (sym (rest s from))
-      ∙ sym (not-opened p 18446744073709551615 (take (length s - from) (drop from s)) column (omega arith))
-      ∙ h
+  looked h = ap (λ (l : Bytes). plannedRow p l column) (sym (rest s from)) ∙ h
 
   span-by : {r : Read Answer} → lookedUp p s column from ≡ r →
       spanIn (planned p column) s start ≡ (moved from r >>= λ (a : Answer). ok (spanOf from a))

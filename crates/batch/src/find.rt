@@ -7,8 +7,7 @@ ghost use Rattle.wire.specs.Read.{refused};
 ghost use Rattle.plan.specs.Lent.{lent};
 ghost use Rattle.batch.specs.Spans.{rowAt, rowsOf, ownerOf, span, spanNumbers, moved, spanIn, spansIn, planned, spansFound, Batched};
 ghost use Rattle.batch.specs.Scan.{toldSpan, Scanned};
-use plan::look::NOT_OPENED;
-use plan::look::from_lent;
+use plan::look::look_lent;
 use plan::plan::Plan;
 use row::rows::LookUp;
 use wire::LIMIT;
@@ -80,7 +79,7 @@ fn span_at(plan: &[usize; 131], section: &[u8], start: usize, column: usize) -> 
     ensures { λ r. ⌜ toldSpan r ≡ spanIn (planned (lent (now (plan .entry))) column) (now (section .entry)) start ⌝ }
 {
     let from = lesser(start, section.len());
-    match from_lent(plan, NOT_OPENED, &section[from..], column) {
+    match look_lent(plan, &section[from..], column) {
         LookUp::Refused(e) => refuse(from, e),
         LookUp::Null => SpanRead::At {
             start: NULL_MARK,

@@ -2,14 +2,14 @@
 -- Assumes nothing.
 use Prim.Native.Nat.{ℕ, _+_, _≤_, _<_, min}
 use mathlib.Core.Bool.{true, false}
-use mathlib.Core.Path.{_≡_, refl, sym, ap, _∙_}
+use mathlib.Core.Path.{_≡_, refl, _∙_}
 use native.Mathlib.Omega.{arith}
 use lib.ListN.{length, getD}
-use lib.Dec.{eqb}
-use borrow.Author.Tests.{lt-ltb, le-ltb, ltb-true, leb-true, lt-leb, le-leb}
+use lib.Dec.{ltb}
+use borrow.Author.Tests.{lt-ltb, le-ltb, ltb-true, leb-true}
 use Rattle.wire.specs.declared.error.Input.{Input}
 use Rattle.wire.specs.declared.error.Input.the-variants as input
-use Rattle.wire.specs.Read.{Bytes, Read, ok, bad, _>>=_, pick, check, about, sizedBy, sized, limit}
+use Rattle.wire.specs.Read.{Bytes, Read, ok, bad, _>>=_, check, about, sizedBy, sized, limit}
 use Rattle.wire.proofs.Laws.{whole-fits, whole-short, sized-over, sized-within}
 use Rattle.wire.proofs.Pieces.{bind-ok, about-ok, check-ok}
 use Rattle.column.specs.declared.field.Field.{Field}
@@ -21,9 +21,8 @@ use Rattle.row.specs.Presence.{present}
 use Rattle.row.specs.Rows.{Place, place, reached, field, null, chapter}
 use Rattle.plan.specs.declared.plan.Plan.{Plan}
 use Rattle.plan.specs.Packed.{unpacked, widthIn}
-use Rattle.plan.specs.Plans.{plannedWord, plannedColumn, plannedMark, plannedGap, plannedMap, plannedMarked, fieldIn, visits, stopsTo, jumped, landed, unset, plannedOpen, plannedAnswer}
-use Rattle.plan.specs.Handles.{countsOpened}
-use Rattle.plan.specs.Lent.{foundIn, asked, startChecked}
+use Rattle.plan.specs.Plans.{plannedWord, plannedColumn, plannedMark, plannedGap, plannedCount, plannedMap, plannedMarked, fieldIn, visits, stopsTo, jumped, landed, unset, plannedKnown, plannedOpen, plannedAnswer, plannedLookUp, plannedRow}
+use Rattle.plan.specs.Lent.{foundIn, asked}
 
 -- The ways out of the way to column k.
 
@@ -127,26 +126,30 @@ module _ (p : Plan) (row : Bytes) (k : ℕ) (u : Unit {0}) (a : asked p row k �
       let (v, e, f) = bind-ok (about input.Row (sized row)) _ u a in
       ltb-true _ _ (check-ok _ _ _ u (about-ok _ _ u f))
 
--- A row counts as opened, or is opened now.
+-- The ways out of a look-up: the first checks, opening, the column.
 
-module _ (p : Plan) (start : ℕ) (row : Bytes) where
-  pub counts-past : length row < start → countsOpened p start row ≡ false
-  unfolding countsOpened
-  counts-past h = rw (lt-leb start (length row) h)
+module _ (p : Plan) (row : Bytes) (k : ℕ) where
+  row-checks :
+      plannedRow p row k
+      ≡ asked p row k >>= (λ (u : Unit {0}). about input.Row (plannedOpen p row) >>= (λ (s : ℕ). about input.Row (plannedAnswer p row k)))
+  unfolding plannedRow plannedLookUp plannedKnown asked
+  row-checks = go (about input.Row (sized row))
+    where
+      go :
+          (r : Read (Unit {0})) →
+          r >>= (λ (u : Unit {0}). plannedLookUp p row k)
+          ≡ (r >>= (λ (u : Unit {0}). about input.Column (check (ltb k (plannedCount p)) 18 0))) >>= (λ (u : Unit {0}). about input.Row (plannedOpen p row) >>= (λ (s : ℕ). about input.Row (plannedAnswer p row k)))
+      go (ok u) = refl
+      go (bad e o i) = refl
 
-  pub counts-in : start ≤ length row → countsOpened p start row ≡ eqb start (plannedMap p)
-  unfolding countsOpened
-  counts-in h = rw (le-leb start (length row) h)
+  pub row-refused : {e o : ℕ} {i : Input} → asked p row k ≡ bad e o i → plannedRow p row k ≡ bad e o i
+  row-refused a = row-checks ∙ simp a
 
-  pub start-counts : countsOpened p start row ≡ true → startChecked p start row ≡ ok tt
-  unfolding startChecked
-  start-counts e = rw e
+  module _ (u : Unit {0}) (a : asked p row k ≡ ok u) where
+    pub row-closed : {e o : ℕ} {i : Input} → plannedOpen p row ≡ bad e o i → plannedRow p row k ≡ bad e o input.Row
+    unfolding about
+    row-closed g = row-checks ∙ simp (a, g)
 
-  module _ (n : countsOpened p start row ≡ false) where
-    pub start-closed : {e o : ℕ} {i : Input} → plannedOpen p row ≡ bad e o i → startChecked p start row ≡ bad e o i
-    unfolding startChecked
-    start-closed g = rw (n, g)
-
-    pub start-opens : (s : ℕ) → plannedOpen p row ≡ ok s → startChecked p start row ≡ ok tt
-    unfolding startChecked
-    start-opens s g = rw (n, g)
+    pub row-open : (s : ℕ) → plannedOpen p row ≡ ok s → plannedRow p row k ≡ about input.Row (plannedAnswer p row k)
+    unfolding about
+    row-open s g = row-checks ∙ simp (a, g)

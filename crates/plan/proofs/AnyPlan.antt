@@ -147,13 +147,18 @@ fixed-told p k x h =
     let (u, e, f) = bind-ok (plannedKnown p k) _ (fixed x) h in
     named (isChapter (plannedColumn p k)) (noStops p k) f
 
--- Where the plan's own columns fix the place of a column, a field that is found starts there.
-pub planned-placed :
-    (p : Plan) (row : Bytes) (k : ℕ) (f : Field) (x : ℕ) → fixedPlace p k ≡ ok (fixed x) → plannedLookUp p row k ≡ ok (field f) → f .start ≡ x
-planned-placed p row k f x e h =
-    let (n, q) = fixed-told p k x e in
-    let d = look-landed p row k f h in
+-- Where no column before k is a stop, a field that is found starts at the number held, its own prefix added.
+pub landed-placed :
+    (p : Plan) (row : Bytes) (k : ℕ) (f : Field) → noStops p k ≡ true → Landed p row k f → f .start ≡ plannedGap p k + prefixBytes (plannedColumn p k)
+landed-placed p row k f n d =
     let z : place 0 0 ≡ d .place = ok-ok (sym (visits-still p row k n (stopsTo p k) (place 0 0)) ∙ d .way) in
     let y : 0 ≡ d .place .at = ap (λ (w : Place). w .at) z in
     let t = told-in (plannedWord p k) row (d .place .at + plannedGap p k) (d .there) in
     ap (λ (g : Field). g .start) (d .same) ∙ omega (arith, t .starts)
+
+-- That is the place which the plan names.
+pub planned-placed :
+    (p : Plan) (row : Bytes) (k : ℕ) (f : Field) (x : ℕ) → fixedPlace p k ≡ ok (fixed x) → plannedLookUp p row k ≡ ok (field f) → f .start ≡ x
+planned-placed p row k f x e h =
+    let (n, q) = fixed-told p k x e in
+    landed-placed p row k f n (look-landed p row k f h) ∙ q

@@ -6,15 +6,13 @@ use mathlib.Core.Path.{_≡_}
 use lib.ListN.{getD}
 use lib.Dec.{ltb}
 use Rattle.wire.specs.declared.error.Input.the-variants as input
-use Rattle.wire.specs.Read.{Bytes, Read, ok, bad, _>>=_, pick, check, about, sized}
+use Rattle.wire.specs.Read.{Bytes, Read, ok, bad, _>>=_, check, about, sized}
 use Rattle.column.specs.declared.field.Field.{Field}
 use Rattle.column.specs.Layout.{mostColumns}
 use Rattle.row.specs.Rows.{Place, reached, Answer, field}
 use Rattle.row.specs.declared.rows.WalkRead.{WalkRead}
 use Rattle.row.specs.declared.rows.WalkRead.the-variants as walk
 use Rattle.plan.specs.declared.plan.Plan.{Plan}
-use Rattle.plan.specs.Plans.{plannedOpen}
-use Rattle.plan.specs.Handles.{countsOpened}
 
 -- the plan of these numbers
 abbrev pub lent : List ℕ → Plan
@@ -54,11 +52,3 @@ unfoldable pub asked : Plan → Bytes → ℕ → Read (Unit {0})
 asked p row k = do
   _ ← about input.Row (sized row)
   about input.Column (check (ltb k (min (getD (p .numbers) 128 0) mostColumns)) 18 0)
-
--- a row that counts as opened, or opens now
-unfoldable pub startChecked : Plan → (start : ℕ) → Bytes → Read (Unit {0})
-startChecked p start row =
-    pick (countsOpened p start row) (ok tt)
-    (do
-      _ ← plannedOpen p row
-      ok tt)

@@ -10,15 +10,14 @@ ghost use Rattle.wire.specs.declared.error.Input.the-variants as input;
 ghost use Rattle.wire.specs.declared.integer.IntRead.the-variants as int;
 ghost use Rattle.column.specs.Columns.{isVariable, prefixSize, lengthError};
 ghost use Rattle.column.specs.Fields.{variableAt};
-ghost use Rattle.row.specs.Presence.{mark, present};
 ghost use Rattle.row.specs.Rows.{place};
 ghost use Rattle.row.specs.declared.rows.LookUp.the-variants as look;
 ghost use Rattle.row.specs.Parts.{partOf};
 ghost use Rattle.row.specs.Told.{toldWalk, toldLookUp};
 ghost use Rattle.plan.specs.Packed.{stopIn, markedIn, tabled};
 ghost use Rattle.plan.specs.Plans.{plannedList, fieldIn, passedVariable, visit, visits, jumped, unset, plannedOpen, plannedAnswer, plannedRow};
-ghost use Rattle.plan.specs.Handles.{openedRow, countsOpened, handled};
-ghost use Rattle.plan.specs.Lent.{lent, Near, Small, Lies, endOf, lengthOf, foundIn, asked, startChecked};
+ghost use Rattle.plan.specs.Handles.{openedRow, startOf};
+ghost use Rattle.plan.specs.Lent.{lent, Near, Small, Lies, endOf, lengthOf, foundIn, asked};
 use crate::bit_in;
 use crate::column_in;
 use crate::gap_in;
@@ -44,8 +43,8 @@ use wire::integer::IntRead;
 use wire::integer::wide;
 use wire::lesser;
 
-// The start of a row that was not opened: more than any row has.
-pub const NOT_OPENED: usize = 18_446_744_073_709_551_615;
+// The start of a row that does not open: more than any row has.
+const NO_START: usize = 18_446_744_073_709_551_615;
 
 // Whether a field of a column of variable length may have this length.
 fn allows(column: Column, length: usize) -> bool
@@ -374,39 +373,15 @@ fn check_asked(plan: &[usize; 131], row: &[u8], k: usize) -> Matched
     Matched::Same
 }
 
-// Whether a row counts as opened at `start`: it is the plan's start, and in the row.
-fn counts_opened(plan: &[usize; 131], start: usize, row: &[u8]) -> bool
-    ensures { λ r. ⌜ r ≡ countsOpened (lent (now (plan .entry))) start (now (row .entry)) ⌝ }
-{
-    if row.len() < start {
-        return false;
-    }
-    start == plan[129]
-}
-
-// A row counts as opened, or is opened now.
-fn check_start(plan: &[usize; 131], start: usize, row: &[u8]) -> Matched
-    ensures { λ r. ⌜ toldMatch r ≡ startChecked (lent (now (plan .entry))) start (now (row .entry)) ⌝ }
-{
-    if counts_opened(plan, start, row) {
-        return Matched::Same;
-    }
-    match open_map(plan, row) {
-        IntRead::Refused(e) => Matched::Refused(e),
-        IntRead::Int(_) => Matched::Same,
-    }
-}
-
-// Column `k` of a row that was opened at `start`, by a plan whose numbers are lent. A row that does not count as opened there is opened
-// first.
-pub fn from_lent(plan: &[usize; 131], start: usize, row: &[u8], k: usize) -> LookUp
-    ensures { λ r. ⌜ toldLookUp r ≡ handled (lent (now (plan .entry))) start (now (row .entry)) k ⌝ }
+// Column `k` of a row, by a plan whose numbers are lent.
+pub fn look_lent(plan: &[usize; 131], row: &[u8], k: usize) -> LookUp
+    ensures { λ r. ⌜ toldLookUp r ≡ plannedRow (lent (now (plan .entry))) (now (row .entry)) k ⌝ }
 {
     match check_asked(plan, row, k) {
         Matched::Refused(e) => LookUp::Refused(e),
-        Matched::Same => match check_start(plan, start, row) {
-            Matched::Refused(e) => about_row(e),
-            Matched::Same => look_at(plan, row, k),
+        Matched::Same => match open_map(plan, row) {
+            IntRead::Refused(e) => about_row(e),
+            IntRead::Int(_) => look_at(plan, row, k),
         },
     }
 }
@@ -415,7 +390,7 @@ pub fn from_lent(plan: &[usize; 131], start: usize, row: &[u8], k: usize) -> Loo
 pub fn look_up(plan: Plan, row: &[u8], k: usize) -> LookUp
     ensures { λ r. ⌜ toldLookUp r ≡ plannedRow plan (now (row .entry)) k ⌝ }
 {
-    from_lent(&plan.numbers, NOT_OPENED, row, k)
+    look_lent(&plan.numbers, row, k)
 }
 
 // The bytes of a field that was found, as a part of the row; empty where none was.
@@ -442,7 +417,7 @@ pub fn field_part<'a>(plan: Plan, row: &'a [u8], k: usize) -> &'a [u8]
     part_found(row, look_up(plan, row, k))
 }
 
-// Opens a row by a plan. Where its data start: what its handle is made with.
+// Opens a row by a plan. Where its data start.
 pub fn open_row(plan: Plan, row: &[u8]) -> IntRead
     ensures { λ r. ⌜ toldInt r ≡ openedRow plan (now (row .entry)) ⌝ }
 {
@@ -459,16 +434,12 @@ pub fn open_row(plan: Plan, row: &[u8]) -> IntRead
     }
 }
 
-// Column `k` of a row that was opened at `start`, by a plan.
-pub fn look_from(row: &[u8], start: usize, plan: Plan, k: usize) -> LookUp
-    ensures { λ r. ⌜ toldLookUp r ≡ handled plan start (now (row .entry)) k ⌝ }
+// The start that a row's handle keeps.
+pub(crate) fn start_of(plan: Plan, row: &[u8]) -> usize
+    ensures { λ r. ⌜ r ≡ startOf (openedRow plan (now (row .entry))) ⌝ }
 {
-    from_lent(&plan.numbers, start, row, k)
-}
-
-// The bytes of its field, as a part of the row; empty where no field is found.
-pub fn part_from<'a>(row: &'a [u8], start: usize, plan: Plan, k: usize) -> &'a [u8]
-    ensures { λ r. ⌜ now r ≡ partOf (now (row .entry)) (handled plan start (now (row .entry)) k) ⌝ }
-{
-    part_found(row, look_from(row, start, plan, k))
+    match open_row(plan, row) {
+        IntRead::Refused(_) => NO_START,
+        IntRead::Int(start) => start,
+    }
 }

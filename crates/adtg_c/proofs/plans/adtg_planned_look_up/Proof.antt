@@ -1,18 +1,13 @@
 -- The value is that of the call.
 -- Assumes nothing.
 use mathlib.Core.Path.{ap, _∙_}
-use Rattle.plan.specs.Lent.{lent}
-use Rattle.plan.proofs.Handled.{not-opened}
 use Rattle.adtg_c.specs.PlanAnswers.{foundAnswer}
 use borrow.Author.Needs.{needs}
 use Rattle.adtg_c.proofs.plans.adtg_planned_look_up.Statement.{statement}
 use Rattle.adtg_c.proofs.plans.adtg_planned_look_up.Tie as tie
 
 returns : tie.Need-returns
-returns c =
-    let args = c .before .before .before .args in
-    let a = c .found-answer .ensures ∙ ap foundAnswer (c .before .from-lent .ensures) in
-    (a, λ l. a ∙ ap foundAnswer (not-opened (lent (args .plan .now)) (args .start) (args .row .now) (args .column) l))
+returns c = c .found-answer .ensures ∙ ap foundAnswer (c .before .look-lent .ensures)
 
 pub adtg-planned-look-up-spec : {M : Type 1} → statement M
 adtg-planned-look-up-spec = tie.close (tie.spec
