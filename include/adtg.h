@@ -280,29 +280,19 @@ uint32_t adtg_check_plan(adtg_plan plan, const uint8_t *file, size_t file_length
  * out: fixed or not, place (0 where it is not). */
 uint32_t adtg_fixed_place(adtg_plan plan, size_t column, uint64_t out[16]);
 
-/* Opens an original row by a plan: checks its size, that its presence map is whole and that no chapter's bit is set.
- * out: where the data behind the map start, for look-ups in the opened row. */
+/* Opens an original row by a plan: checks its size, that its presence map is whole and that no chapter's bit is set. Every
+ * look-up checks these too, and answers the same error where the plan has the column.
+ * out: where the data behind the map start. */
 uint32_t adtg_open_row(adtg_plan plan, const uint8_t *row, size_t row_length, uint64_t out[16]);
 
-/* The start of a row that was not opened. */
-#define ADTG_NOT_OPENED SIZE_MAX
-
 /* Looks up a column in an original row by the numbers of a plan. With the plan of a schema it answers as `adtg_look_up` does
- * with that schema. `start` is what opening the row by the same plan answered, and then the map is not checked again; or it is
- * `ADTG_NOT_OPENED`. */
-adtg_found adtg_planned_look_up(const uint64_t numbers[131], size_t start,
-                                const uint8_t *row, size_t row_length, size_t column);
+ * with that schema. */
+adtg_found adtg_planned_look_up(const uint64_t numbers[131], const uint8_t *row, size_t row_length, size_t column);
 
-/* Looks up a column by a plan, and in a row that was opened by it. Neither copies the plan. */
+/* The same by a plan, which is not copied. */
 static inline adtg_found adtg_find(const adtg_plan *plan, const uint8_t *row, size_t row_length, size_t column)
 {
-    return adtg_planned_look_up(plan->numbers, ADTG_NOT_OPENED, row, row_length, column);
-}
-
-static inline adtg_found adtg_find_opened(const adtg_plan *plan, size_t start,
-                                          const uint8_t *row, size_t row_length, size_t column)
-{
-    return adtg_planned_look_up(plan->numbers, start, row, row_length, column);
+    return adtg_planned_look_up(plan->numbers, row, row_length, column);
 }
 
 /* The owner of the parent's rows in a table of rows. A child's rows have its child id. */

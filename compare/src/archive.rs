@@ -177,9 +177,12 @@ pub fn open_row(plan: &PlanNumbers, row: &[u8]) -> Reply<usize> {
     told(raw::open_row(&plan_of(plan), row).decode())
 }
 
-/// What the archive finds in one column of a row that was opened, with what opening answered.
-pub fn open_look_up(plan: &PlanNumbers, start: usize, row: &[u8], column: usize) -> Reply<Answer> {
-    told(plan_of(plan).find_opened(start, row, column).decode())
+/// What the archive finds in one column through the row's handle, or the error of opening it.
+pub fn open_look_up(plan: &PlanNumbers, row: &[u8], column: usize) -> Reply<Answer> {
+    match plan_of(plan).open(row) {
+        Ok(handle) => told(handle.find(column).decode()),
+        Err(error) => Err(Fault::Error(error.into())),
+    }
 }
 
 /// The archive's batch: how many spans stand at the start of `spans`, two numbers each.

@@ -191,8 +191,8 @@ fn archive_look_up(schema: &[u8], number: usize, row: &[u8], column: usize) -> S
     let (planned, opened) = match archive::make_plan(schema, number) {
         Ok(plan) => {
             let planned = archive::planned_look_up(&plan, row, column);
-            let opened = archive::open_row(&plan, row).map_or(planned.clone(), |start| {
-                archive::open_look_up(&plan, start, row, column)
+            let opened = archive::open_row(&plan, row).map_or(planned.clone(), |_| {
+                archive::open_look_up(&plan, row, column)
             });
             (planned, opened)
         }

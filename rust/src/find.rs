@@ -5,9 +5,6 @@ use crate::raw::{self, error, size, Malformed};
 use crate::row::Answer;
 use crate::Error;
 
-/// The start of a row that was not opened.
-pub const NOT_OPENED: usize = usize::MAX;
-
 /// What a look-up through a plan found, as the archive replies it.
 #[repr(C)]
 #[derive(Clone, Copy, Debug, PartialEq, Eq)]
@@ -19,7 +16,7 @@ pub struct Found {
     prefixes: u64,
 }
 
-/// A row that was opened by a plan: its presence map is checked already.
+/// A row that was opened by a plan. A look-up through it answers as the direct one does.
 #[derive(Clone, Copy, Debug)]
 pub struct RowHandle<'a> {
     plan: &'a Plan,
@@ -49,15 +46,7 @@ impl Plan {
     /// Looks up a column and leaves the reply as it is: `adtg_find`.
     #[inline]
     pub fn find(&self, row: &[u8], column: usize) -> Found {
-        self.find_opened(NOT_OPENED, row, column)
-    }
-
-    /// The same in a row that was opened by this plan, with the start that opening it answered:
-    /// `adtg_find_opened`. With any other start it still answers, and a field that it finds lies
-    /// in the row.
-    #[inline]
-    pub fn find_opened(&self, start: usize, row: &[u8], column: usize) -> Found {
-        raw::planned_look_up(self.numbers(), start, row, column)
+        raw::planned_look_up(self.numbers(), row, column)
     }
 }
 
@@ -71,7 +60,7 @@ impl<'a> RowHandle<'a> {
     /// Looks up a column and leaves the reply as it is.
     #[inline]
     pub fn find(&self, column: usize) -> Found {
-        self.plan.find_opened(self.start, self.row, column)
+        self.plan.find(self.row, column)
     }
 
     /// The row.
@@ -152,8 +141,7 @@ mod tests {
                 assert_eq!(plan.find(row, column).answer(), walk);
                 if let Ok(handle) = opened {
                     assert_eq!(handle.look_up(column), walk);
-                    let found = plan.find_opened(handle.start(), handle.row(), column);
-                    assert_eq!(found, handle.find(column));
+                    assert_eq!(handle.find(column), plan.find(row, column));
                 }
             }
         }
@@ -183,6 +171,37 @@ mod tests {
             input: Input::Row,
         };
         assert_eq!(plan.open(&[]).map(|handle| handle.start()), Err(error));
+    }
+
+    #[test]
+    fn a_set_bit_of_a_chapter_is_refused_directly_and_at_opening() {
+        // A byte that every row has, and a nullable chapter.
+        let file = [0x02, 0x11, 0x00, 0x88, 0x01, 0x01, 0x07, 0x01, 0x11, 0x00];
+        let plan = Plan::make(&file, 0).unwrap();
+        let error = Error {
+            kind: ErrorKind::ChapterBit,
+            offset: 0,
+            input: Input::Row,
+        };
+        let row = [0x80, 0x2A];
+        assert_eq!(plan.open(&row).map(|handle| handle.start()), Err(error));
+        for column in [0, 1] {
+            assert_eq!(plan.look_up(&row, column), Err(error));
+            assert_eq!(look_up(&file, 0, &row, column), Err(error));
+        }
+        let missing = plan.look_up(&row, 2).unwrap_err();
+        assert_eq!(
+            (missing.kind, missing.input),
+            (ErrorKind::Missing, Input::Column)
+        );
+        let unset = [0x00, 0x2A];
+        let handle = plan.open(&unset).unwrap();
+        assert_eq!(handle.start(), 1);
+        for (column, field) in [(0, Some(1..2)), (1, None)] {
+            let answer = handle.look_up(column).unwrap();
+            assert_eq!(answer.part(&unset), field.map(|place| &unset[place]));
+            assert_eq!(plan.look_up(&unset, column), Ok(answer));
+        }
     }
 
     #[test]

@@ -203,9 +203,10 @@ fn look_ups(file: &[u8], number: usize, row: &[u8], columns: &[usize], run: &mut
         return;
     };
     let inputs = || format!("plan of {} {number}, {}", shown(file), shown(row));
-    let opened = plan.open(row).map(|_| plan.map_size());
+    let opened = plan.open(row);
+    let wanted = opened.map(|_| plan.map_size());
     let start = archive::open_row(&numbers, row);
-    run.judge(&OPEN, &opened, &complaints(&opened, &start), inputs);
+    run.judge(&OPEN, &wanted, &complaints(&wanted, &start), inputs);
     for column in columns {
         let walk = look_up(file, number, row, *column);
         let with_column = || format!("{} {column}", inputs());
@@ -216,9 +217,12 @@ fn look_ups(file: &[u8], number: usize, row: &[u8], columns: &[usize], run: &mut
             of_planned.push("the reading's plan says something else".to_string());
         }
         run.judge(&PLANNED, &walk, &of_planned, with_column);
-        if let (Ok(_), Ok(start)) = (&opened, &start) {
-            let found = archive::open_look_up(&numbers, *start, row, *column);
-            let of_opened = complaints(&walk, &found);
+        if let (Ok(opened), Ok(_)) = (opened, &start) {
+            let found = archive::open_look_up(&numbers, row, *column);
+            let mut of_opened = complaints(&walk, &found);
+            if opened.look_up(&plan, *column) != walk {
+                of_opened.push("the reading's opened row says something else".to_string());
+            }
             run.judge(&OPENED, &walk, &of_opened, with_column);
         }
     }

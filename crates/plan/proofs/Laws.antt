@@ -5,7 +5,7 @@ use mathlib.Core.Bool.{Bool, true, false}
 use mathlib.Core.Path.{_≡_, refl, sym, ap, _∙_}
 use native.Mathlib.Omega.{arith}
 use lib.ListN.{length}
-use lib.Dec.{leb, eqb}
+use lib.Dec.{ltb, leb, eqb}
 use borrow.Author.Tests.{lt-ltb, le-ltb, le-leb, eqb-true, eqb-false}
 use Rattle.wire.specs.declared.error.Input.{Input}
 use Rattle.wire.specs.declared.error.Input.the-variants as input
@@ -113,6 +113,19 @@ module _ (c : Column) (row : Bytes) (at : ℕ) where
 
       pub end-fits : at + prefixSize c + n ≤ length row → at + prefixSize c + n ≡ endOf (variableAt c row at)
       end-fits l = sym (told-end ∙ ap endOf (bytes-fit row (at + prefixSize c) n 1 l))
+
+  -- a field that is found ends behind its prefix
+  pub end-some : isVariable c ≡ true → {f : Field} → variableAt c row at ≡ ok f → endOf (variableAt c row at) ≡ 0 → ⊥
+  unfolding prefixSize
+  end-some v {f} q z =
+      let t = field-told c row at (field-variable c row at v ∙ q) in
+      let e : f .end ≡ 0 = ap endOf (sym q) ∙ z in
+      let l : 1 ≤ prefixSize c = go (ltb (c .maximum) 256) in
+      omega (arith, t .starts, t .forward, prefix-variable c v)
+    where
+      go : (t : Bool) → 1 ≤ pick t 1 4
+      go true = omega arith
+      go false = omega arith
 
   -- what an end that is not 0 tells
   module _ (v : isVariable c ≡ true) (e : ℕ) (h : e ≡ endOf (variableAt c row at)) (n : e ≡ 0 → ⊥) where

@@ -4,7 +4,7 @@ ghost use mathlib.Core.Bool.{true};
 ghost use Prim.Native.Nat.{_≤_, _<_, _+_};
 ghost use lib.ListN.{length};
 ghost use lib.Dec.{eqb};
-ghost use Rattle.wire.specs.Read.{toldMatch, about};
+ghost use Rattle.wire.specs.Read.{refused, toldMatch, about};
 ghost use Rattle.wire.specs.Integers.{readInt, toldInt};
 ghost use Rattle.wire.specs.declared.error.Input.the-variants as input;
 ghost use Rattle.wire.specs.declared.integer.IntRead.the-variants as int;
@@ -27,7 +27,7 @@ use crate::width_in;
 use column::column::Column;
 use column::field::Field;
 use column::field::FieldRead;
-use column::field::field_at;
+use column::field::variable_at;
 use column::types::ColumnType;
 use row::rows::LookUp;
 use row::rows::WalkRead;
@@ -113,6 +113,21 @@ fn variable_end(column: Column, row: &[u8], at: usize) -> usize
     0
 }
 
+// Why such a field is refused. One that is found has an end, so the last case does not arise.
+fn refusal(column: Column, row: &[u8], at: usize) -> Error
+    requires { ⌜ (isVariable column ≡ true) × (endOf (variableAt column (now row) at) ≡ 0) ⌝ }
+    ensures { λ r. ⌜ variableAt column (now (row .entry)) at ≡ refused r ⌝ }
+{
+    match variable_at(column, row, at) {
+        FieldRead::Refused(e) => e,
+        FieldRead::Found(_) => Error {
+            kind: ErrorKind::Short,
+            offset: row.len(),
+            input: Input::Single,
+        },
+    }
+}
+
 // Past a stop of variable length with this bit, from a position with so many prefixes.
 fn pass_variable(column: Column, bit: usize, row: &[u8], at: usize, prefixes: usize) -> WalkRead
     requires { ⌜ (isVariable column ≡ true) × (prefixes ≤ 64) ⌝ }
@@ -127,13 +142,7 @@ fn pass_variable(column: Column, bit: usize, row: &[u8], at: usize, prefixes: us
                 prefixes: prefixes + 1,
             };
         }
-        return match field_at(column, row, at) {
-            FieldRead::Refused(e) => WalkRead::Refused(e),
-            FieldRead::Found(f) => WalkRead::At {
-                position: f.end,
-                prefixes: prefixes + f.prefixes,
-            },
-        };
+        return WalkRead::Refused(refusal(column, row, at));
     }
     WalkRead::At {
         position: at,
@@ -250,14 +259,7 @@ fn find_variable(column: Column, row: &[u8], at: usize, prefixes: usize) -> Look
             prefixes: prefixes + 1,
         });
     }
-    match field_at(column, row, at) {
-        FieldRead::Refused(e) => about_row(e),
-        FieldRead::Found(f) => LookUp::Found(Field {
-            start: f.start,
-            end: f.end,
-            prefixes: prefixes + f.prefixes,
-        }),
-    }
+    about_row(refusal(column, row, at))
 }
 
 // The field at `at` of a column that a plan holds as this number, after so many prefixes.

@@ -171,7 +171,6 @@ extern "C" {
     fn adtg_open_row(plan: Plan, row: *const u8, row_length: usize, out: *mut Numbers) -> u32;
     fn adtg_planned_look_up(
         numbers: *const [u64; Plan::NUMBERS],
-        start: usize,
         row: *const u8,
         row_length: usize,
         column: usize,
@@ -481,13 +480,8 @@ pub fn open_row(plan: &Plan, row: &[u8]) -> Reply<usize> {
 
 /// Calls `adtg_planned_look_up`.
 #[inline]
-pub fn planned_look_up(
-    numbers: &[u64; Plan::NUMBERS],
-    start: usize,
-    row: &[u8],
-    column: usize,
-) -> Found {
-    unsafe { adtg_planned_look_up(numbers, start, row.as_ptr(), row.len(), column) }
+pub fn planned_look_up(numbers: &[u64; Plan::NUMBERS], row: &[u8], column: usize) -> Found {
+    unsafe { adtg_planned_look_up(numbers, row.as_ptr(), row.len(), column) }
 }
 
 /// Calls `adtg_find_column`.
