@@ -56,7 +56,7 @@ fn bytes_at(row: &[u8], at: usize, width: usize, prefixes: usize) -> FieldRead
 }
 
 // The field of variable length whose prefix stands at `at`.
-fn variable_at(column: Column, row: &[u8], at: usize) -> FieldRead
+pub fn variable_at(column: Column, row: &[u8], at: usize) -> FieldRead
     ensures { λ r. ⌜ toldField r ≡ variableAt column (now (row .entry)) at ⌝ }
 {
     match length_at(column, row, at) {

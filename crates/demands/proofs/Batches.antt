@@ -20,7 +20,7 @@ use Rattle.wire.proofs.Laws.{sized-within}
 use Rattle.wire.proofs.Pieces.{bad-ok, bind-ok, about-ok, ok-ok}
 use Rattle.column.specs.declared.column.Column.{Column}
 use Rattle.column.specs.Types.{types, kindIn, kindOf}
-use Rattle.column.specs.Columns.{isNullable, prefixSize, lengthError}
+use Rattle.column.specs.Columns.{isNullable, prefixSize, prefixBytes, lengthError}
 use Rattle.column.specs.Fields.{allowed, bytesAt, variableAt, fieldAt}
 use Rattle.schema.specs.Numbers.{numberLimit, thirdGroup, secondGroup, numberIn}
 use Rattle.schema.specs.Tree.{member}
@@ -34,8 +34,8 @@ use Rattle.row.specs.Presence.{nullables, presenceBytes, marks, bitOf, present,
 use Rattle.row.specs.Rows.{Answer, field, null, chapter, step, walk, arrive, opened, fieldOf, columnOf, known, lookUp}
 use Rattle.row.specs.Rows as row
 use Rattle.plan.specs.declared.plan.Plan.{Plan}
-use Rattle.plan.specs.Plans.{plannedRow}
-use Rattle.plan.proofs.Inside.{row-inside}
+use Rattle.plan.specs.Plans.{plannedColumn, plannedGap, noStops, plannedRow}
+use Rattle.plan.proofs.Inside.{row-inside, row-placed}
 use Rattle.grammar.specs.Grammar.{Row, columnsAt}
 use Rattle.grammar.proofs.Demand as grammar
 use Rattle.grammar.proofs.Usable.{RowAt, Usable, parent-row, unchanged-row, changed-row, deleted-row, Each, each-end, each-next, rows-usable}
@@ -48,7 +48,7 @@ use Rattle.adtg.specs.Rows.{lookUpIn}
 use Rattle.adtg.proofs.Selected.{asks-columns, plan-columns}
 use Rattle.demands.specs.Examples.{T, sectionT}
 use Rattle.demands.specs.Sections.{Given, listing}
-use Rattle.demands.specs.Batches.{walked, owned, Owner, parent-rows, child-rows, SpansOf, no-row, a-row, Lies, lies, is-null, is-chapter}
+use Rattle.demands.specs.Batches.{walked, owned, Owner, parent-rows, child-rows, SpansOf, no-row, a-row, Lies, lies, is-null, is-chapter, Placed, placed, null-placed, chapter-placed, SpansAt, no-span, a-span}
 use Rattle.demands.proofs.Plans.{plan-route-is-walk}
 use Rattle.demands.proofs.Sections.{accepted-iff-split, split-listed, length-numbers}
 
@@ -120,6 +120,38 @@ spans-lie p s column (a-row {r = r} {x = x} q d) = each-next (span-lies p s colu
 
 pub batch-inside : (p : Plan) (s : Bytes) (table : List ℕ) (owner column room : ℕ) (xs : List Span) → spansFound p s table owner column room ≡ ok xs → Each (Lies s) xs
 batch-inside p s table owner column room xs e = spans-lie p s column (batch-row-by-row (planned p column) s table owner room xs e)
+
+-- Where none of the plan's columns before it is a stop, a field starts at the number that the plan holds, its own prefix added.
+
+module _ (p : Plan) (s : Bytes) (column : ℕ) (free : noStops p column ≡ true) where
+  span-placed : (start : ℕ) (x : Span) → spanIn (planned p column) s start ≡ ok x → Placed (startIn s start) (plannedGap p column + prefixBytes (plannedColumn p column)) x
+  unfolding spanIn moved spanOf
+  span-placed start x e = go (plannedRow p (drop (startIn s start) s) column) refl e
+    where
+      refusal : (t : Bool) (code offset : ℕ) (i : Input) →
+          ((pick {A = Read Answer} t (bad code (startIn s start + offset) input.Section) (bad code offset i)) >>= λ (a : Answer). ok (spanOf (startIn s start) a)) ≡ ok x → ⊥
+      refusal true code offset i e = bad-ok e
+      refusal false code offset i e = bad-ok e
+
+      go : (r : Read Answer) → plannedRow p (drop (startIn s start) s) column ≡ r →
+          (moved (startIn s start) r >>= λ (a : Answer). ok (spanOf (startIn s start) a)) ≡ ok x →
+          Placed (startIn s start) (plannedGap p column + prefixBytes (plannedColumn p column)) x
+      go (ok (field f)) q e =
+          let z : span (startIn s start + f .start) (startIn s start + f .end) ≡ x = ok-ok e in
+          let y : f .start ≡ plannedGap p column + prefixBytes (plannedColumn p column) = row-placed p (drop (startIn s start) s) column f q free in
+          rw (← z, y) placed
+      go (ok null) q e = let z : span nullMark nullMark ≡ x = ok-ok e in rw (← z) null-placed
+      go (ok chapter) q e = let z : span chapterMark chapterMark ≡ x = ok-ok e in rw (← z) chapter-placed
+      go (bad c o i) q e = absurd (refusal (isRow i) c o i e)
+
+  spans-placed : {rs : List Row} {xs : List Span} → SpansOf (planned p column) s rs xs → SpansAt s (plannedGap p column + prefixBytes (plannedColumn p column)) rs xs
+  spans-placed no-row = no-span
+  spans-placed (a-row {r = r} {x = x} q d) = a-span (span-placed (r .original) x q) (spans-placed d)
+
+  pub batch-placed :
+      (table : List ℕ) (owner room : ℕ) (xs : List Span) → spansFound p s table owner column room ≡ ok xs →
+      SpansAt s (plannedGap p column + prefixBytes (plannedColumn p column)) (owned owner (rowsOf table)) xs
+  batch-placed table owner room xs e = spans-placed (batch-row-by-row (planned p column) s table owner room xs e)
 
 -- The rows that a table lists are its rows.
 

@@ -1,6 +1,6 @@
 -- What is said of a batch: one column of every row of one table.
 -- Assumes nothing.
-use Prim.Native.Nat.{ℕ, _≤_}
+use Prim.Native.Nat.{ℕ, _+_, _≤_}
 use mathlib.Core.Path.{_≡_}
 use mathlib.Core.List.{List, [], _∷_}
 use mathlib.Core.Option.{some}
@@ -10,7 +10,7 @@ use Rattle.wire.specs.Read.{Bytes, Read, ok, pick}
 use Rattle.row.specs.Rows.{Answer}
 use Rattle.schema.specs.Schemas.{Schema, childNumber}
 use Rattle.grammar.specs.Grammar.{Row}
-use Rattle.batch.specs.Spans.{parents, ownerOf, Span, span, nullMark, chapterMark, spanIn}
+use Rattle.batch.specs.Spans.{parents, ownerOf, startIn, Span, span, nullMark, chapterMark, spanIn}
 use Rattle.adtg.specs.Rows.{lookUpIn}
 
 -- a column's look-up by the walk, in a schema of a file
@@ -37,3 +37,14 @@ pub data Lies (s : Bytes) : Span → Type 0 where
   lies : {a b : ℕ} → a ≤ b → b ≤ length s → Lies s (span a b)
   is-null : Lies s (span nullMark nullMark)
   is-chapter : Lies s (span chapterMark chapterMark)
+
+-- A span that starts so many bytes behind a row's start, or is one of the two marks.
+pub data Placed (from place : ℕ) : Span → Type 0 where
+  placed : {b : ℕ} → Placed from place (span (from + place) b)
+  null-placed : Placed from place (span nullMark nullMark)
+  chapter-placed : Placed from place (span chapterMark chapterMark)
+
+-- Spans one for one of rows, each at its place behind its row's start.
+pub data SpansAt (s : Bytes) (place : ℕ) : List Row → List Span → Type 0 where
+  no-span : SpansAt s place [] []
+  a-span : {r : Row} {rs : List Row} {x : Span} {xs : List Span} → Placed (startIn s (r .original)) place x → SpansAt s place rs xs → SpansAt s place (r ∷ rs) (x ∷ xs)
