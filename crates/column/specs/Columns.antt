@@ -43,14 +43,14 @@ prefixBytes c = pick (isVariable c) (prefixSize c) 0
 -- The error that a length of so many bytes is, by its number; 0 where it is allowed.
 -- It may reach the maximum; in wide text twice the maximum, and it must be even.
 abbrev pub lengthErrorOf : Kind → ℕ → ℕ → ℕ
-lengthErrorOf (Fixed w) maximum length = 0
-lengthErrorOf Variable maximum length = pick (leb length maximum) 0 14
-lengthErrorOf Wide maximum length = pick (leb length (2 * maximum)) (pick (eqb (length % 2) 0) 0 14) 14
-lengthErrorOf Chapter maximum length = 0
-lengthErrorOf Unknown maximum length = 0
+lengthErrorOf (Fixed w) maximum size = 0
+lengthErrorOf Variable maximum size = pick (leb size maximum) 0 14
+lengthErrorOf Wide maximum size = pick (leb size (2 * maximum)) (pick (eqb (size % 2) 0) 0 14) 14
+lengthErrorOf Chapter maximum size = 0
+lengthErrorOf Unknown maximum size = 0
 
 unfoldable pub lengthError : Column → ℕ → ℕ
-lengthError c length = lengthErrorOf (kind c) (c .maximum) length
+lengthError c size = lengthErrorOf (kind c) (c .maximum) size
 
 -- what a `LengthCheck` says
 abbrev pub toldLength : LengthCheck → ℕ

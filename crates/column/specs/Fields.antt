@@ -30,9 +30,9 @@ bytesAt row at width prefixes = do
 unfoldable pub variableAt : Column → Bytes → ℕ → Read Field
 variableAt c row at = do
   start ← whole row at (prefixSize c)
-  length ← readInt row at (prefixSize c)
-  _ ← allowed (lengthError c length) at
-  bytesAt row start length 1
+  size ← readInt row at (prefixSize c)
+  _ ← allowed (lengthError c size) at
+  bytesAt row start size 1
 
 -- the field of a present column whose prefix, or whose bytes, stand at `at`
 unfoldable pub fieldAt : Column → Bytes → ℕ → Read Field

@@ -84,21 +84,21 @@ impl Column {
         }
     }
 
-    // Whether a field of the column may have this length.
-    pub fn length_error(self, length: usize) -> LengthCheck
-        ensures { λ r. ⌜ toldLength r ≡ lengthError self length ⌝ }
+    // Whether a field of the column may have a length of so many bytes.
+    pub fn length_error(self, size: usize) -> LengthCheck
+        ensures { λ r. ⌜ toldLength r ≡ lengthError self size ⌝ }
     {
         let maximum = self.maximum as usize;
         if self.code == ColumnType::WSTR {
-            if 2 * maximum < length {
+            if 2 * maximum < size {
                 return LengthCheck::Refused(ErrorKind::Length);
             }
-            if length % 2 != 0 {
+            if size % 2 != 0 {
                 return LengthCheck::Refused(ErrorKind::Length);
             }
             return LengthCheck::Allowed;
         }
-        if maximum < length {
+        if maximum < size {
             if self.is_variable() {
                 return LengthCheck::Refused(ErrorKind::Length);
             }

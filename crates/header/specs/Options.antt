@@ -45,9 +45,9 @@ optionsAs update strings async end = record { update = update; strings = strings
 unfoldable pub spanAt : Bytes → ℕ → ℕ → Read Span
 spanAt s at end = do
   _ ← check (leb (at + 2) end) 4 1
-  length ← readInt s at 2
-  _ ← check (leb (at + 2 + length) end) 4 1
-  ok (spanFrom (at + 2) (at + 2 + length))
+  n ← readInt s at 2
+  _ ← check (leb (at + 2 + n) end) 4 1
+  ok (spanFrom (at + 2) (at + 2 + n))
 
 -- the three strings, one after the other
 unfoldable pub spansOf : Bytes → ℕ → Read Spans

@@ -47,17 +47,17 @@ use wire::lesser;
 const NO_START: usize = 18_446_744_073_709_551_615;
 
 // Whether a field of a column of variable length may have this length.
-fn allows(column: Column, length: usize) -> bool
-    ensures { λ r. ⌜ (isVariable column ≡ true → r ≡ eqb (lengthError column length) 0) × (r ≡ true → length < 131072) ⌝ }
+fn allows(column: Column, size: usize) -> bool
+    ensures { λ r. ⌜ (isVariable column ≡ true → r ≡ eqb (lengthError column size) 0) × (r ≡ true → size < 131072) ⌝ }
 {
     let maximum = column.maximum as usize;
     if column.code == ColumnType::WSTR {
-        if 2 * maximum < length {
+        if 2 * maximum < size {
             return false;
         }
-        return length % 2 == 0;
+        return size % 2 == 0;
     }
-    length <= maximum
+    size <= maximum
 }
 
 // Where a field of variable length starts, and its length; more than any column allows where no length is there.

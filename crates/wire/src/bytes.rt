@@ -14,14 +14,14 @@ pub enum Matched {
     Refused(Error),
 }
 
-// Whether some of the `n` bytes from `at` on lie past a length.
-pub fn lacks(length: usize, at: usize, n: usize) -> bool
-    ensures { λ r. ⌜ r ≡ ltb length (at + n) ⌝ }
+// Whether some of the `n` bytes from `at` on lie past the end of `size` bytes.
+pub fn lacks(size: usize, at: usize, n: usize) -> bool
+    ensures { λ r. ⌜ r ≡ ltb size (at + n) ⌝ }
 {
-    if length < at {
+    if size < at {
         return true;
     }
-    if length - at < n {
+    if size - at < n {
         return true;
     }
     false
