@@ -55,8 +55,8 @@ pub data Present : List Column → List Bool → List Column → Type 0 where
 
 -- Original row data: the presence map, in as many bytes as needed, then the fields of the columns that are present.
 pub data Original (columns : List Column) : Bytes → Type 0 where
-  original : (map : Bytes) {those : List Column} {fields : Bytes} → length map ≡ presenceBytes columns → Present columns (bits map) those → Fields those fields →
-      Original columns (map ++ fields)
+  original : (presence : Bytes) {those : List Column} {fields : Bytes} → length presence ≡ presenceBytes columns → Present columns (bits presence) those → Fields those fields →
+      Original columns (presence ++ fields)
 
 -- Carried columns updates forces those: with these bits of the update map and of the force-null map, one of each for each column, those of
 -- the columns have a field. Force 1 needs update 1 and a nullable column, and a chapter's bits are 0 in both: no rule has anything else.

@@ -31,8 +31,8 @@ abbrev pub widthOfWord : ℕ → ℕ
 widthOfWord word = word / 72057594037927936
 
 -- A form of a schema: the word of its first step, how many steps it has, the bytes of its presence map, the bytes behind the last step.
-abbrev pub formOf : (first steps map tail : ℕ) → ℕ
-formOf first steps map tail = first + 65536 * steps + 16777216 * map + 4294967296 * tail
+abbrev pub formOf : (first steps presence tail : ℕ) → ℕ
+formOf first steps presence tail = first + 65536 * steps + 16777216 * presence + 4294967296 * tail
 
 -- and its parts again
 abbrev pub firstIn : ℕ → ℕ

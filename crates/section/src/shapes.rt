@@ -24,11 +24,11 @@ fn word_of(slot: u64, gap: usize, bit: usize) -> u64
 }
 
 // A form in one number.
-fn form_of(first: usize, steps: usize, map: usize, tail: usize) -> u64
-    requires { ⌜ (first < 65536) × (steps < 256) × (map < 256) × (tail < 65536) ⌝ }
-    ensures { λ r. ⌜ r ≡ formOf first steps map tail ⌝ }
+fn form_of(first: usize, steps: usize, presence: usize, tail: usize) -> u64
+    requires { ⌜ (first < 65536) × (steps < 256) × (presence < 256) × (tail < 65536) ⌝ }
+    ensures { λ r. ⌜ r ≡ formOf first steps presence tail ⌝ }
 {
-    (first + 65_536 * steps + 16_777_216 * map + 4_294_967_296 * tail) as u64
+    (first + 65_536 * steps + 16_777_216 * presence + 4_294_967_296 * tail) as u64
 }
 
 // The steps over original rows of the columns in `count` slots, into the words from `next` on; and the form of the schema.

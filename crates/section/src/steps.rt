@@ -48,14 +48,14 @@ pub(crate) fn length_at(section: &[u8], at: usize, size: usize) -> usize
 }
 
 // A length, or 0 where `has` is 0.
-fn kept(length: usize, has: usize) -> usize
+fn kept(n: usize, has: usize) -> usize
     requires { ⌜ has ≤ 1 ⌝ }
-    ensures { λ r. ⌜ r ≡ length * has ⌝ }
+    ensures { λ r. ⌜ r ≡ n * has ⌝ }
 {
     if has == 0 {
         return 0;
     }
-    length
+    n
 }
 
 // The bytes that a field at `at` takes, by its word; none where `has` is 0. No branch depends on `has`.
