@@ -1,4 +1,4 @@
-// The calls of the library that take a schema file together with rows or a row section.
+// The calls of the library that take a schema file together with rows or plans.
 // Each checks all that it is given, in the common order of checks: all sizes, the schema file, the schema number, the rest.
 ghost use mathlib.Core.Path.{_≡_};
 ghost use Rattle.wire.specs.Read.{about, sized, sizedBy, toldMatch};
@@ -15,10 +15,8 @@ use wire::error::ErrorKind;
 use wire::error::Input;
 use wire::integer::IntRead;
 
-pub mod batches;
 pub mod plans;
 pub mod rows;
-pub mod sections;
 pub mod updates;
 pub mod writers;
 

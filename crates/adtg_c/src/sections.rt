@@ -5,8 +5,8 @@ ghost use Rattle.section.specs.Table.{rowsRead, tableAfter, rowCount, toldRows}
 ghost use Rattle.adtg_c.specs.Answers.{Answered, sizeValues};
 use crate::answer::refuse;
 use crate::answer::tell;
-use adtg::sections::read_section;
 use section::read::RowsRead;
+use section::read::read_section;
 
 // The answer of a section that was read: how many rows it has.
 fn answer_rows(rows: RowsRead, out: &mut [u64; 16]) -> u32

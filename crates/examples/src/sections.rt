@@ -1,8 +1,8 @@
 // Examples of row sections.
 use crate::head::show_error;
 use crate::head::show_number;
-use adtg::sections::read_section;
 use section::read::RowsRead;
+use section::read::read_section;
 
 const OUT: i32 = 1;
 
