@@ -1,4 +1,4 @@
--- A question about the columns of one schema of a file, with other inputs beside it.
+-- Promise: a question about the columns of one schema of a file, with other inputs beside it.
 -- Assumes nothing.
 use Prim.Native.Nat.{ℕ}
 use mathlib.Core.Path.{_≡_}
@@ -21,6 +21,8 @@ both first second = do
 -- asked of the schema's columns.
 abbrev pub inSchema : {A : Type 0} → Bytes → (sizes : Read (Unit {0})) → ℕ → (List Column → Read A) → Read A
 inSchema file sizes number ask = withSchema file sizes number (λ schemas columns. ask (map asColumn columns))
+
+-- Inner.
 
 -- the columns themselves
 unfoldable pub columnsBeside : Bytes → (sizes : Read (Unit {0})) → ℕ → Read Columns

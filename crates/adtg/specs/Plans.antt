@@ -1,4 +1,4 @@
--- Plans, with the schema file and the schema number that they are made from or compared with.
+-- Promise: plans, with the schema file and the schema number that they are made from or compared with.
 -- Assumes nothing.
 use Prim.Native.Nat.{ℕ}
 use mathlib.Core.Path.{_≡_}

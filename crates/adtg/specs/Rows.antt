@@ -1,4 +1,4 @@
--- Questions about a row, with the schema file and the schema number that say its columns.
+-- Promise: questions about a row, with the schema file and the schema number that say its columns.
 -- Assumes nothing.
 use Prim.Native.Nat.{ℕ}
 use Rattle.wire.specs.declared.error.Input.the-variants as input

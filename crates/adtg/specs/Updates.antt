@@ -1,4 +1,4 @@
--- Questions about update data and about a changed row, with the schema file and the schema number that say the columns.
+-- Promise: questions about update data and about a changed row, with the schema file and the schema number that say the columns.
 -- Assumes nothing.
 use Prim.Native.Nat.{ℕ}
 use Rattle.wire.specs.declared.error.Input.the-variants as input

@@ -1,4 +1,4 @@
--- Rows written with the schema file and the schema number that say their columns.
+-- Promise: rows written with the schema file and the schema number that say their columns.
 -- Assumes nothing.
 use Prim.Native.Nat.{ℕ}
 use mathlib.Core.List.{List}

@@ -1,4 +1,4 @@
--- An answer as C and Rust see it: a status, and sixteen numbers.
+-- Promise: an answer as C and Rust see it: a status, and sixteen numbers.
 -- Assumes nothing.
 use Prim.Native.Nat.{ℕ, _-_}
 use mathlib.Core.Path.{_≡_}
@@ -29,10 +29,6 @@ pub record Answered {A : Type 0} (values : A → List ℕ) (answer : Read A) (st
   pub answers : status ≡ statusOf answer
   pub holds : numbers ≡ numbersOf values answer
 
--- an answer that has no values
-abbrev pub noValues : ℕ → List ℕ
-noValues n = []
-
 -- the values of a writer's answer: how many bytes it wrote
 abbrev pub sizeValues : ℕ → List ℕ
 sizeValues n = n ∷ []
@@ -54,3 +50,9 @@ countsValues c = c .schemas ∷ c .columns ∷ []
 -- the values of a column: type code, flags, maximum, child id, number of a chapter's schema
 abbrev pub columnValues : Asked → List ℕ
 columnValues a = a .column .code ∷ a .column .flags ∷ a .column .maximum ∷ a .column .id ∷ a .nested ∷ []
+
+-- Inner.
+
+-- an answer that has no values
+abbrev pub noValues : ℕ → List ℕ
+noValues n = []

@@ -1,4 +1,4 @@
--- Answers about plans, as C and Rust see them.
+-- Promise: answers about plans, as C and Rust see them.
 -- Assumes nothing.
 use Prim.Native.Nat.{ℕ}
 use mathlib.Core.Path.{_≡_}

@@ -1,4 +1,4 @@
--- The values of answers about rows, as C and Rust see them. The kinds are 1 a field, 2 null, 3 a chapter, 4 unchanged; the sides of a
+-- Promise: the values of answers about rows, as C and Rust see them. The kinds are 1 a field, 2 null, 3 a chapter, 4 unchanged; the sides of a
 -- current value are 1 the row, 2 the update data.
 -- Assumes nothing.
 use Prim.Native.Nat.{ℕ}

@@ -1,2 +1,3 @@
 pub mod Spans
+-- Inner.
 pub mod Scan

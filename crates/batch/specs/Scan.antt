@@ -1,4 +1,4 @@
--- What the contracts of inner functions cite: one row's answer, and one pass over the rows.
+-- Inner: what the contracts of inner functions cite: one row's answer, and one pass over the rows.
 -- Assumes nothing.
 use Prim.Native.Nat.{ℕ, _+_, _*_}
 use mathlib.Core.Path.{_≡_}

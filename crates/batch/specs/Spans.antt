@@ -1,4 +1,4 @@
--- One column of many rows: where its field stands in a section, for each row of one table.
+-- Promise: one column of many rows: where its field stands in a section, for each row of one table.
 -- Assumes nothing.
 use Prim.Native.Nat.{ℕ, zero, suc, _+_, _*_, _/_, min}
 use mathlib.Core.Path.{_≡_}

@@ -1,4 +1,4 @@
--- One column: what its type, flags and maximum decide (document 01, "Rows").
+-- Promise: one column: what its type, flags and maximum decide (document 01, "Rows").
 -- Assumes nothing.
 use Prim.Native.Nat.{ℕ, _*_, _%_}
 use mathlib.Core.Bool.{Bool, true, false}

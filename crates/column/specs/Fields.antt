@@ -1,4 +1,4 @@
--- One field of a present column at a position of a row (document 01, "Looking up a field": what the walk does at a column).
+-- Promise: one field of a present column at a position of a row (document 01, "Looking up a field": what the walk does at a column).
 -- Assumes nothing.
 use Prim.Native.Nat.{ℕ}
 use lib.Dec.{eqb}

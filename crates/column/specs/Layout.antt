@@ -1,4 +1,4 @@
--- The columns of one schema by value.
+-- Promise: the columns of one schema by value.
 -- Assumes nothing.
 use Prim.Native.Nat.{ℕ, zero, suc, _+_, min}
 use mathlib.Core.List.{List, [], _∷_, map}

@@ -1,4 +1,4 @@
--- The column types: document 01's table of codes and widths (source 004, 3.3.5.8.2).
+-- Promise: the column types: document 01's table of codes and widths (source 004, 3.3.5.8.2).
 -- Assumes nothing.
 use Prim.Native.Nat.{ℕ}
 use mathlib.Core.List.{List, [], _∷_}

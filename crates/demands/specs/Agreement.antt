@@ -1,4 +1,4 @@
--- When two schemas have the same columns, as demand 3 says it.
+-- Promise: when two schemas have the same columns, as demand 3 says it.
 -- Assumes nothing.
 use Prim.Native.Nat.{ℕ, _<_}
 use mathlib.Core.List.{List}

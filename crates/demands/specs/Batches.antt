@@ -1,4 +1,4 @@
--- What is said of a batch: one column of every row of one table.
+-- Promise: what is said of a batch: one column of every row of one table.
 -- Assumes nothing.
 use Prim.Native.Nat.{ℕ, _+_, _≤_}
 use mathlib.Core.Path.{_≡_}

@@ -1,4 +1,4 @@
--- Demand 1, call by call: the checks of calls with a schema file, in the order of document 01.
+-- Promise: demand 1, call by call: the checks of calls with a schema file, in the order of document 01.
 -- Assumes nothing.
 use Prim.Native.Nat.{ℕ}
 use lib.ListN.{length}

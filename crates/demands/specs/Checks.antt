@@ -1,6 +1,6 @@
--- Demand 1: which refusals a call gives, exactly. A call makes its checks one after the other, and the first that refuses is its answer.
--- Each check says in the words of document 01's table when it refuses, with which code (the paper's number), at which offset (its place) and
--- of which input.
+-- Promise: demand 1: which refusals a call gives, exactly. A call makes its checks one after the other, and the first that refuses is its
+-- answer. Each check says in the words of document 01's table when it refuses, with which code (the paper's number), at which offset (its
+-- place) and of which input.
 -- Assumes nothing.
 use Prim.Native.Nat.{ℕ, _+_, _*_, _≤_, _<_}
 use mathlib.Core.Path.{_≡_}

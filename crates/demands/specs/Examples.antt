@@ -1,4 +1,4 @@
--- The examples of document 01 that are to be proved: calls, and what the paper says that they answer.
+-- Promise: the examples of document 01 that are to be proved: calls, and what the paper says that they answer.
 -- Assumes nothing.
 use Prim.Native.Nat.{ℕ}
 use mathlib.Core.List.{List, [], _∷_, map}

@@ -1,5 +1,5 @@
--- What can be wrong with a schema file (document 01, "Column sheet", and its table of refusals), exactly. `State` is where the reader stands:
--- what is left of the file, its offset, the counts so far added up, the child ids so far.
+-- Promise: what can be wrong with a schema file (document 01, "Column sheet", and its table of refusals), exactly. `State` is where the reader
+-- stands: what is left of the file, its offset, the counts so far added up, the child ids so far.
 -- Assumes nothing.
 use Prim.Native.Nat.{ℕ, zero, suc, _+_, _*_, _≤_, _<_}
 use mathlib.Core.Path.{_≡_}

@@ -1,5 +1,5 @@
--- What can be wrong with header and handler options (document 01, "Header and handler options", and its table of refusals), exactly; and what
--- their writers refuse.
+-- Promise: what can be wrong with header and handler options (document 01, "Header and handler options", and its table of refusals), exactly;
+-- and what their writers refuse.
 -- Assumes nothing.
 use Prim.Native.Nat.{ℕ, _+_, _<_}
 use mathlib.Core.Path.{_≡_}

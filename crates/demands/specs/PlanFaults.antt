@@ -1,4 +1,4 @@
--- What is refused through a plan, of any numbers (document 01, "Looking up a field", and its table of refusals), exactly.
+-- Promise: what is refused through a plan, of any numbers (document 01, "Looking up a field", and its table of refusals), exactly.
 -- Assumes nothing.
 use Prim.Native.Nat.{ℕ, _+_, _*_, _/_, _<_}
 use mathlib.Core.Path.{_≡_}

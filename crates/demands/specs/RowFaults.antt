@@ -1,4 +1,4 @@
--- What can be wrong with row data (document 01, "Rows", and its table of refusals): original rows and update data, exactly.
+-- Promise: what can be wrong with row data (document 01, "Rows", and its table of refusals): original rows and update data, exactly.
 -- Assumes nothing.
 use Prim.Native.Nat.{ℕ, suc, _+_, _*_, _/_, _%_, _≤_, _<_}
 use mathlib.Core.Path.{_≡_}

@@ -1,4 +1,4 @@
--- What can be wrong with a row section (document 01, "Rows", and its table of refusals), exactly.
+-- Promise: what can be wrong with a row section (document 01, "Rows", and its table of refusals), exactly.
 -- Assumes nothing.
 use Prim.Native.Nat.{ℕ, _+_, _≤_, _<_}
 use mathlib.Core.Path.{_≡_}

@@ -1,4 +1,4 @@
--- What demand 2 says of a row section and the table that a caller lends for its rows.
+-- Promise: what demand 2 says of a row section and the table that a caller lends for its rows.
 -- Assumes nothing.
 use Prim.Native.Nat.{ℕ, _+_, _*_, _≤_}
 use mathlib.Core.Path.{_≡_}

@@ -1,4 +1,4 @@
--- Demand 2, round trips: what an output holds after a writer, what is read back from it, and which rows are written back as they were.
+-- Promise: demand 2, round trips: what an output holds after a writer, what is read back from it, and which rows are written back as they were.
 -- Assumes nothing.
 use Prim.Native.Nat.{ℕ, _+_, _≤_, _<_}
 use mathlib.Core.Path.{_≡_}

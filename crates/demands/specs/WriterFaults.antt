@@ -1,4 +1,4 @@
--- What the row writers refuse (document 01, "Looking up a field": the row writers, and its table of refusals), exactly.
+-- Promise: what the row writers refuse (document 01, "Looking up a field": the row writers, and its table of refusals), exactly.
 -- Assumes nothing.
 use Prim.Native.Nat.{ℕ, suc, _*_, _-_, _^_, _≤_, _<_}
 use mathlib.Core.Path.{_≡_}

@@ -1,4 +1,4 @@
--- The bytes of an original row and of update data (document 01, "Rows"), from one entry a column.
+-- Promise: the bytes of an original row and of update data (document 01, "Rows"), from one entry a column.
 -- Assumes nothing.
 use Prim.Native.Nat.{ℕ, zero, suc, _+_, _*_}
 use mathlib.Core.List.{List, [], _∷_, _++_}

@@ -1,4 +1,4 @@
--- What a row writer is given (document 01, "Looking up a field": the row writers): one entry a column, in three numbers.
+-- Promise: what a row writer is given (document 01, "Looking up a field": the row writers): one entry a column, in three numbers.
 -- Assumes nothing.
 use Prim.Native.Nat.{ℕ, zero, suc, _+_, _*_, _-_}
 use mathlib.Core.List.{List, [], _∷_}

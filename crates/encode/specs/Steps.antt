@@ -1,4 +1,5 @@
--- What the row writers' inner functions are asked for, in the terms of the rows that are written.
+-- Promise: the bytes of a row of either kind. Behind it stands what the row writers' inner functions are asked for, in the terms of the rows
+-- that are written.
 -- Assumes nothing.
 use Prim.Native.Nat.{ℕ, _≤_}
 use mathlib.Core.Path.{_≡_}
@@ -19,13 +20,15 @@ use Rattle.encode.specs.Entries.{Entry}
 use Rattle.encode.specs.Encoding.{isValue, isChange, isForced, presenceBits, updateBits, forceBits, pack, fieldsOf, originalBytes, updateData}
 use Rattle.encode.specs.Writers.{inOriginal, inUpdate, entriesStand}
 
--- which entries can stand, in update data or in an original row
-abbrev pub standsIn : (update : Bool) → Column → Entry → Bool
-standsIn update = pick update inUpdate inOriginal
-
 -- the bytes of update data, or of an original row
 abbrev pub rowIn : (update : Bool) → List Column → List Entry → Bytes
 rowIn update = pick update updateData originalBytes
+
+-- Inner.
+
+-- which entries can stand, in update data or in an original row
+abbrev pub standsIn : (update : Bool) → Column → Entry → Bool
+standsIn update = pick update inUpdate inOriginal
 
 -- the maps in front of the fields
 unfoldable pub mapsIn : (update : Bool) → List Column → List Entry → Bytes

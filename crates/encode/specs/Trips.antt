@@ -1,4 +1,4 @@
--- What is read off a row, as what a writer is given; and which rows are written back as they were.
+-- Promise: what is read off a row, as what a writer is given; and which rows are written back as they were.
 -- Assumes nothing.
 use Prim.Native.Nat.{ℕ, zero, suc, _+_, _*_, _<_, _≤_}
 use mathlib.Core.Path.{_≡_}
@@ -47,13 +47,6 @@ unfoldable pub numbersFrom : (ℕ → List ℕ) → (n k : ℕ) → List ℕ
 numbersFrom of zero k = []
 numbersFrom of (suc n) k = of k ++ numbersFrom of n (suc k)
 
--- what is read off a row, column by column, as it is given to a writer; and off update data
-unfoldable pub readOriginal : List Column → Bytes → List ℕ
-readOriginal columns row = numbersFrom (λ (k : ℕ). numbersOf (rows.lookUp columns row k)) (length columns) 0
-
-unfoldable pub readUpdate : List Column → Bytes → List ℕ
-readUpdate columns update = numbersFrom (λ (k : ℕ). numbersOfUpdate (updates.lookUpdate columns update k)) (length columns) 0
-
 -- The reserved bits of a row's map, and of both maps of update data, are 0.
 abbrev pub ReservedZero : List Column → Bytes → Type 0
 ReservedZero columns row = (k : ℕ) → nullables columns ≤ k → k < 8 * presenceBytes columns → bitSet row k ≡ false
@@ -62,3 +55,12 @@ abbrev pub UpdateReservedZero : List Column → Bytes → Type 0
 UpdateReservedZero columns update =
     (k : ℕ) → length columns ≤ k → k < 8 * updates.updateBytes columns →
     (bitSet update k ≡ false) × (bitSet (drop (updates.updateBytes columns) update) k ≡ false)
+
+-- Inner.
+
+-- what is read off a row, column by column, as it is given to a writer; and off update data
+unfoldable pub readOriginal : List Column → Bytes → List ℕ
+readOriginal columns row = numbersFrom (λ (k : ℕ). numbersOf (rows.lookUp columns row k)) (length columns) 0
+
+unfoldable pub readUpdate : List Column → Bytes → List ℕ
+readUpdate columns update = numbersFrom (λ (k : ℕ). numbersOfUpdate (updates.lookUpdate columns update k)) (length columns) 0

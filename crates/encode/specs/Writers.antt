@@ -1,4 +1,4 @@
--- The two row writers: their checks in the paper's order, the row, and what the output then holds.
+-- Promise: the two row writers: their checks in the paper's order, the row, and what the output then holds.
 -- Assumes nothing.
 use Prim.Native.Nat.{ℕ, suc, _+_, _*_, _-_, _^_}
 use mathlib.Core.Path.{_≡_}

@@ -1,5 +1,5 @@
--- The grammar of a row section (document 01, "Rows"): which bytes are a field, a row, a section. Nothing here reads bytes one after the
--- other: a whole is its pieces joined by `++`, and a rule says what each piece has to be.
+-- Promise: the grammar of a row section (document 01, "Rows"): which bytes are a field, a row, a section. Nothing here reads bytes one after
+-- the other: a whole is its pieces joined by `++`, and a rule says what each piece has to be.
 -- Assumes nothing.
 use Prim.Native.Nat.{ℕ, _+_, _*_, _/_, _%_, _≤_}
 use mathlib.Core.Path.{_≡_}

@@ -1,3 +1,4 @@
 pub mod Grammar
 pub mod Reader
+-- Inner.
 pub mod Pending

@@ -1,4 +1,4 @@
--- The rows of a section by positions alone, as code computes them: the same answers as `section`, without the pieces
+-- Inner: the rows of a section by positions alone, as code computes them: the same answers as `section`, without the pieces
 -- (proofs/Pending.antt: `rows-are-section`).
 -- Assumes nothing.
 use Prim.Native.Nat.{ℕ, zero, suc, _+_}

@@ -1,4 +1,4 @@
--- The reader of a row section, over the whole input and a position in it, in the order of checks of document 01.
+-- Promise: the reader of a row section, over the whole input and a position in it, in the order of checks of document 01.
 -- Assumes nothing.
 use Prim.Native.Nat.{ℕ, zero, suc, _+_, _-_}
 use mathlib.Core.List.{List, [], _∷_}

@@ -1,4 +1,4 @@
--- The header (document 01, "Header and handler options"): nine bytes, checked from left to right.
+-- Promise: the header (document 01, "Header and handler options"): nine bytes, checked from left to right.
 -- Assumes nothing.
 use Prim.Native.Nat.{ℕ}
 use mathlib.Core.List.{List, [], _∷_, _++_}

@@ -1,4 +1,4 @@
--- Handler options (document 01, "Header and handler options").
+-- Promise: handler options (document 01, "Header and handler options").
 -- Assumes nothing.
 use Prim.Native.Nat.{ℕ, _+_, _-_}
 use mathlib.Core.List.{List, [], _∷_, _++_}
@@ -127,6 +127,17 @@ optionsWritten first second third async capacity = do
   _ ← optionsSize (length first) (length second) (length third) async
   fitting (optionsBytes first second third async) capacity
 
+-- what an `OptionsRead` says
+abbrev pub toldOptions : OptionsRead → Read Options
+toldOptions (options.Read x) = ok x
+toldOptions (options.Refused e) = refused e
+
+-- the bytes of a string that was read
+abbrev pub textOf : Bytes → Span → Bytes
+textOf s x = cut s (x .start) (x .end - x .start)
+
+-- Inner.
+
 -- what the answers say
 abbrev pub toldSpan : SpanRead → Read Span
 toldSpan (span.Read x) = ok x
@@ -136,14 +147,6 @@ abbrev pub toldSpans : SpansRead → Read Spans
 toldSpans (spans.Read x) = ok x
 toldSpans (spans.Refused e) = refused e
 
-abbrev pub toldOptions : OptionsRead → Read Options
-toldOptions (options.Read x) = ok x
-toldOptions (options.Refused e) = refused e
-
 abbrev pub toldSize : SizeCheck → Read ℕ
 toldSize (size.Size n) = ok n
 toldSize (size.Refused e) = refused e
-
--- the bytes of a string that was read
-abbrev pub textOf : Bytes → Span → Bytes
-textOf s x = cut s (x .start) (x .end - x .start)

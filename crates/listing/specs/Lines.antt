@@ -1,4 +1,4 @@
--- The lines that the program prints (document 01, "Examples").
+-- Promise: the lines that the program prints (document 01, "Examples").
 -- Assumes nothing.
 use Prim.Native.Nat.{ℕ, zero, suc, _+_, _≤_}
 use mathlib.Core.Path.{_≡_}
@@ -66,6 +66,8 @@ pub data RowLines : List Row → Bytes → Type 0 where
 pub data Text : Read (List Row) → Bytes → Type 0 where
   rows-text : {rs : List Row} {first lines : Bytes} → CountLine (length rs) first → RowLines rs lines → Text (ok rs) (first ++ lines)
   refusal-text : {code place : ℕ} {name : Input} {line : Bytes} → RefusalLine (refusalWords name) code place line → Text (bad code place name) line
+
+-- Inner.
 
 -- the first n rows of a table
 unfoldable pub rowsOf : ℕ → List ℕ → List Row

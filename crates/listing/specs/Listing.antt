@@ -1,4 +1,4 @@
--- What the program lists: the rows of a section, where both files are small enough.
+-- Promise: what the program lists: the rows of a section, where both files are small enough.
 -- Assumes nothing.
 use Prim.Native.Nat.{ℕ, _≤_, _<_}
 use mathlib.Core.Path.{_≡_}

@@ -1,4 +1,4 @@
--- What the contracts of inner functions cite: a plan whose numbers are lent; bounds; the first checks.
+-- Promise: a plan whose numbers are lent. What contracts of inner functions cite stands behind it: bounds; the first checks.
 -- Assumes nothing.
 use Prim.Native.Nat.{ℕ, _+_, _≤_, min}
 use mathlib.Core.List.{List}
@@ -17,6 +17,8 @@ use Rattle.plan.specs.declared.plan.Plan.{Plan}
 -- the plan of these numbers
 abbrev pub lent : List ℕ → Plan
 lent numbers = record { numbers = numbers }
+
+-- Inner.
 
 -- A step of the way ends no further than this, with one prefix more at most: what keeps its numbers small.
 abbrev pub Near : (most prefixes : ℕ) → WalkRead → Type 0

@@ -1,4 +1,4 @@
--- The numbers of a plan: how the parts of a column share one number, and where each number stands.
+-- Promise: the numbers of a plan: how the parts of a column share one number, and where each number stands.
 -- Assumes nothing.
 use Prim.Native.Nat.{ℕ, zero, suc, _+_, _*_, _/_, _%_}
 use mathlib.Core.List.{List, [], _∷_, _++_}
@@ -44,10 +44,6 @@ unfoldable pub tabled : (ℕ → ℕ) → (n i : ℕ) → List ℕ
 tabled f zero i = []
 tabled f (suc n) i = f i ∷ tabled f n (suc i)
 
--- the numbers of columns, from the arrays of their parts
-abbrev pub columnNumbers : (codes flags maxima gaps bits : List ℕ) → ℕ → ℕ
-columnNumbers codes flags maxima gaps bits i = packed (columnIn codes flags maxima i) (getD gaps i 0) (getD bits i 0)
-
 -- the numbers of three lists
 abbrev pub listNumbers : (before stops marked : List ℕ) → ℕ → ℕ
 listNumbers before stops marked j = listed (getD before j 0) (getD stops j 0) (getD marked j 0)
@@ -56,3 +52,9 @@ listNumbers before stops marked j = listed (getD before j 0) (getD stops j 0) (g
 -- presence map, how many nullable chapters there are.
 unfoldable pub laid : (columns lists : ℕ → ℕ) → (count map chapters : ℕ) → List ℕ
 laid columns lists count map chapters = tabled columns mostColumns 0 ++ (tabled lists mostColumns 0 ++ (count ∷ map ∷ chapters ∷ []))
+
+-- Inner.
+
+-- the numbers of columns, from the arrays of their parts
+abbrev pub columnNumbers : (codes flags maxima gaps bits : List ℕ) → ℕ → ℕ
+columnNumbers codes flags maxima gaps bits i = packed (columnIn codes flags maxima i) (getD gaps i 0) (getD bits i 0)

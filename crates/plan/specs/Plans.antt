@@ -1,4 +1,4 @@
--- Column plans (document 01, "Looking up a field"): what a plan holds of the columns of a schema, and the look-up through it (the
+-- Promise: column plans (document 01, "Looking up a field"): what a plan holds of the columns of a schema, and the look-up through it (the
 -- paper's plan route), which jumps from stop to stop.
 -- Assumes nothing.
 use Prim.Native.Nat.{ℕ, zero, suc, _+_, _*_, _/_, _≤_, _<_, min}
@@ -59,13 +59,6 @@ planOf cs =
           laid (λ (i : ℕ). packed (getD cs i noColumn) (getD (gapsOf cs) i 0) (getD (bitsOf cs) i 0))
           (listNumbers (stopsBefore 0 cs) (stopsFrom 0 cs) (chapterBits (marks 0 cs))) (length cs) (presenceBytes cs) (length (chapterBits (marks 0 cs)));
     }
-
--- Columns as code has them: at most 64, and each of their numbers fits the byte or the two that it is kept in.
-pub record Kept (cs : List Column) : Type 0 where
-  pub few : length cs ≤ mostColumns
-  pub code : (i : ℕ) → getD cs i noColumn .code < 256
-  pub flags : (i : ℕ) → getD cs i noColumn .flags < 256
-  pub maximum : (i : ℕ) → getD cs i noColumn .maximum < 65536
 
 -- Any plan: the number of column i; the column, its bit and its gap.
 abbrev pub plannedWord : Plan → ℕ → ℕ
@@ -200,3 +193,12 @@ unfoldable pub fixedPlace : Plan → ℕ → Read FixedPlace
 fixedPlace p k = do
   _ ← plannedKnown p k
   ok (pick (isChapter (plannedColumn p k)) moving (pick (noStops p k) (fixed (plannedGap p k + prefixBytes (plannedColumn p k))) moving))
+
+-- Inner.
+
+-- Columns as code has them: at most 64, and each of their numbers fits the byte or the two that it is kept in.
+pub record Kept (cs : List Column) : Type 0 where
+  pub few : length cs ≤ mostColumns
+  pub code : (i : ℕ) → getD cs i noColumn .code < 256
+  pub flags : (i : ℕ) → getD cs i noColumn .flags < 256
+  pub maximum : (i : ℕ) → getD cs i noColumn .maximum < 65536

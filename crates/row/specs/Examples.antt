@@ -1,4 +1,4 @@
--- Look-ups in rows, and what document 01 says that they answer: its examples under S, and cases that catch likely errors.
+-- Inner: look-ups in rows, and what document 01 says that they answer: its examples under S, and cases that catch likely errors.
 -- Assumes nothing.
 use Prim.Native.Nat.{ℕ}
 use mathlib.Core.List.{List, [], _∷_}

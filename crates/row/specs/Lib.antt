@@ -3,4 +3,5 @@ pub mod Rows
 pub mod Told
 pub mod Updates
 pub mod Parts
+-- Inner.
 pub mod Examples

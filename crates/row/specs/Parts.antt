@@ -1,4 +1,4 @@
--- The bytes of what a look-up finds, as a part of the caller's rows (document 01, "Looking up a field").
+-- Promise: the bytes of what a look-up finds, as a part of the caller's rows (document 01, "Looking up a field").
 -- Assumes nothing.
 use Prim.Native.Nat.{_-_}
 use mathlib.Core.List.{[]}

@@ -1,4 +1,4 @@
--- Presence (document 01, "Rows"): the bits that columns have in a map, and which columns a row has a field of.
+-- Promise: presence (document 01, "Rows"): the bits that columns have in a map, and which columns a row has a field of.
 -- A map is given as the bytes from its start on; what stands behind it is never asked for.
 -- Assumes nothing.
 use Prim.Native.Nat.{ℕ, _+_, _/_}
@@ -35,9 +35,6 @@ pub record Mark : Type 0 where
 abbrev pub mark : Column → ℕ → Mark
 mark c b = record { column = c; bit = b }
 
-abbrev pub noMark : Mark
-noMark = mark noColumn 0
-
 -- Each column with its bit in the presence map, from bit b on. A column that is not nullable has none, and its number is not used.
 unfoldable pub marks : ℕ → List Column → List Mark
 marks b [] = []
@@ -70,3 +67,9 @@ clear broken code at (m ∷ ms) = do
 unfoldable pub count : (Mark → Bool) → List Mark → ℕ
 count test [] = 0
 count test (m ∷ ms) = one (test m) + count test ms
+
+-- Inner.
+
+-- a mark that stands for none
+abbrev pub noMark : Mark
+noMark = mark noColumn 0

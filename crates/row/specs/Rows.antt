@@ -1,4 +1,4 @@
--- Original rows (document 01, "Rows" and "Looking up a field"): the walk, look-up, the end of a row, the number of fields.
+-- Promise: original rows (document 01, "Rows" and "Looking up a field"): the walk, look-up, the end of a row, the number of fields.
 -- Assumes nothing.
 use Prim.Native.Nat.{ℕ, zero, suc, _+_}
 use mathlib.Core.List.{List, [], _∷_}

@@ -1,4 +1,4 @@
--- What the code's answers say.
+-- Promise: what the code's answers say.
 -- Assumes nothing.
 use Prim.Native.Nat.{ℕ}
 use Rattle.wire.specs.Read.{Read, ok, refused}
@@ -12,10 +12,6 @@ use Rattle.row.specs.declared.current.CurrentValue.{CurrentValue}
 use Rattle.row.specs.declared.current.CurrentValue.the-variants as current
 use Rattle.row.specs.Rows.{Place, place, Answer, field, null, chapter}
 use Rattle.row.specs.Updates as U
-
-abbrev pub toldWalk : WalkRead → Read Place
-toldWalk (walk.At position prefixes) = ok (place position prefixes)
-toldWalk (walk.Refused e) = refused e
 
 abbrev pub toldLookUp : LookUp → Read Answer
 toldLookUp (look.Found f) = ok (field f)
@@ -37,3 +33,9 @@ toldCurrent (current.Found f) = ok (U.original (field f))
 toldCurrent current.Null = ok (U.original null)
 toldCurrent current.Chapter = ok (U.original chapter)
 toldCurrent (current.Refused e) = refused e
+
+-- Inner.
+
+abbrev pub toldWalk : WalkRead → Read Place
+toldWalk (walk.At position prefixes) = ok (place position prefixes)
+toldWalk (walk.Refused e) = refused e

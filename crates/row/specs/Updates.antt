@@ -1,4 +1,4 @@
--- Update data (document 01, "Rows"), and the current value of a changed row ("Looking up a field").
+-- Promise: update data (document 01, "Rows"), and the current value of a changed row ("Looking up a field").
 -- Assumes nothing.
 use Prim.Native.Nat.{ℕ, suc, _+_, _*_}
 use mathlib.Core.List.{List, [], _∷_}
@@ -96,10 +96,6 @@ lookUpdateRow columns update k = do
   _ ← about input.Update (sized update)
   lookUpdate columns update k
 
--- how many of the columns up to column k, its own included, have a field of variable length in the update data
-unfoldable pub updatePrefixCount : List Column → Bytes → ℕ → ℕ
-updatePrefixCount columns update k = count (prefixed (carriedIn columns update 0)) (take (suc k) (numbered 0 columns))
-
 -- The current value of a column of a changed row, and which row answers: a field of the update data, null by the update data, or
 -- what the original row answers.
 pub data Current : Type 0 where
@@ -132,3 +128,9 @@ currentRow columns row update k = do
   _ ← about input.Update (sized update)
   _ ← about input.Row (sized row)
   current columns row update k
+
+-- Inner.
+
+-- how many of the columns up to column k, its own included, have a field of variable length in the update data
+unfoldable pub updatePrefixCount : List Column → Bytes → ℕ → ℕ
+updatePrefixCount columns update k = count (prefixed (carriedIn columns update 0)) (take (suc k) (numbered 0 columns))

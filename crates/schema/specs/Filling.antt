@@ -1,4 +1,4 @@
--- The reader of a schema file as code runs it: by offsets, with the table in place of the tree, the sum and the ids.
+-- Promise: the reader of a schema file as code runs it: by offsets, with the table in place of the tree, the sum and the ids.
 -- Its checks are the reader's, in the same order; that the two agree is proved (proofs/Agreement).
 -- Assumes nothing.
 use Prim.Native.Nat.{ℕ, zero, suc, _+_, _≤_}
@@ -26,13 +26,6 @@ pub record Filled : Type 0 where
 
 abbrev pub filled : (at columns schemas : ℕ) → List ℕ → Filled
 filled at columns schemas table = record { at = at; columns = columns; schemas = schemas; table = table }
-
--- It has room: its offset lies in the input, every schema so far has a column, no column is one too many, the table is whole.
-pub record Good (b : Bytes) (f : Filled) : Type 0 where
-  pub inside : f .at ≤ length b
-  pub some : f .schemas ≤ f .columns
-  pub few : f .columns ≤ mostFileColumns
-  pub long : length (f .table) ≡ tableSize
 
 -- at another offset
 abbrev pub moved : ℕ → Filled → Filled
@@ -113,3 +106,12 @@ fillFile b table = do
   f ← fillSchema mostDepth b 0 (filled 0 0 0 table)
   _ ← check (leb (length b) (f .at)) 15 (f .at)
   ok f
+
+-- Inner.
+
+-- The reader has room: its offset lies in the input, every schema so far has a column, no column is one too many, the table is whole.
+pub record Good (b : Bytes) (f : Filled) : Type 0 where
+  pub inside : f .at ≤ length b
+  pub some : f .schemas ≤ f .columns
+  pub few : f .columns ≤ mostFileColumns
+  pub long : length (f .table) ≡ tableSize

@@ -1,4 +1,4 @@
--- The numbers of one column up to a nested schema, by offsets into the whole input, as code reads them.
+-- Inner: the numbers of one column up to a nested schema, by offsets into the whole input, as code reads them.
 -- Assumes nothing.
 use Prim.Native.Nat.{ℕ}
 use Rattle.wire.specs.declared.error.Input.the-variants.{Single}

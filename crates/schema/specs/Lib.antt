@@ -4,7 +4,8 @@ pub mod Reader
 pub mod Schemas
 pub mod Table
 pub mod Filling
-pub mod Heads
 pub mod Told
 pub mod Questions
 pub mod Writer
+-- Inner.
+pub mod Heads

@@ -1,4 +1,4 @@
--- The numbers that a schema file is made of, seven bits a byte (document 01, "Column sheet": its numbers and their groups).
+-- Promise: the numbers that a schema file is made of, seven bits a byte (document 01, "Column sheet": its numbers and their groups).
 -- Assumes nothing.
 use Prim.Native.Nat.{ℕ, _+_, _*_, _-_, _/_, _%_}
 use mathlib.Core.List.{List, [], _∷_, _++_}
@@ -18,11 +18,6 @@ groups n =
     pick (ltb n 0x80) (n ∷ [])
     (pick (ltb n 0x4000) ((n % 0x80 + 0x80) ∷ ((n / 0x80) ∷ []))
     ((n % 0x80 + 0x80) ∷ ((n / 0x80 % 0x80 + 0x80) ∷ ((n / 0x4000) ∷ []))))
-
--- the groups of numbers, one number after the other
-unfoldable pub allGroups : List ℕ → Bytes
-allGroups [] = []
-allGroups (n ∷ ns) = groups n ++ allGroups ns
 
 -- A number that was read: its value, the bytes behind it, and their offset.
 pub record Number : Type 0 where
@@ -83,3 +78,10 @@ unfoldable pub numberAt : Bytes → ℕ → Read Found
 numberAt b at = do
   _ ← check (ltb at (length b)) 1 (length b)
   pick (ltb (getD b at 0) 0x80) (ok (found (getD b at 0) (at + 1))) (secondAt b at)
+
+-- Inner.
+
+-- the groups of numbers, one number after the other
+unfoldable pub allGroups : List ℕ → Bytes
+allGroups [] = []
+allGroups (n ∷ ns) = groups n ++ allGroups ns

@@ -1,4 +1,4 @@
--- What is asked of a schema file, and the order of checks of every call that takes one.
+-- Promise: what is asked of a schema file, and the order of checks of every call that takes one.
 -- Assumes nothing.
 use Prim.Native.Nat.{ℕ, _+_, _≤_}
 use mathlib.Core.Path.{_≡_}
@@ -64,36 +64,6 @@ abbrev pub toldSize : SizeRead → Read ℕ
 toldSize (size.Size n) = ok n
 toldSize (size.Refused e) = refused e
 
--- a schema of a file, with all schemas
-pub record Selected : Type 0 where
-  pub schemas : List Schema
-  pub columns : List Entry
-
-abbrev pub selected : List Schema → List Entry → Selected
-selected schemas columns = record { schemas = schemas; columns = columns }
-
-unfoldable pub selectedOf : Bytes → ℕ → Read Selected
-selectedOf b k = withSchema b alone k (λ schemas columns. ok (selected schemas columns))
-
--- an opened schema says the columns in its slots of the table, which hold all schemas
-abbrev pub toldOpened : Opened → List ℕ → Read Selected
-toldOpened (opened.Block start count schemas) table = ok (selected (schemasIn 0 schemas table) (entriesIn start count table))
-toldOpened (opened.Refused e) table = refused e
-
-pub record Slots (start count schemas : ℕ) : Type 0 where
-  pub few : count ≤ mostColumns
-  pub inside : start + count ≤ mostFileColumns
-  pub some : 1 ≤ schemas
-  pub all : schemas ≤ mostFileColumns
-
-abbrev pub InSlots : Opened → Type 0
-InSlots (opened.Block start count schemas) = Slots start count schemas
-InSlots (opened.Refused e) = Unit {0}
-
-pub record Opening (b : Bytes) (k : ℕ) (table : List ℕ) (r : Opened) : Type 0 where
-  pub answers : toldOpened r table ≡ selectedOf b k
-  pub slots : InSlots r
-
 -- The columns of a schema by value. Beside an error there are none.
 unfoldable pub columnsOf : Bytes → ℕ → Read Columns
 columnsOf b k = withSchema b alone k (λ schemas columns. ok (layout (map asColumn columns)))
@@ -146,3 +116,35 @@ columnOf b k j =
 abbrev pub toldColumn : ColumnRead → Read Asked
 toldColumn (column.Column code flags maximum id nested) = ok (record { column = entry code flags maximum id; nested = nested })
 toldColumn (column.Refused e) = refused e
+
+-- Inner.
+
+-- a schema of a file, with all schemas
+pub record Selected : Type 0 where
+  pub schemas : List Schema
+  pub columns : List Entry
+
+abbrev pub selected : List Schema → List Entry → Selected
+selected schemas columns = record { schemas = schemas; columns = columns }
+
+unfoldable pub selectedOf : Bytes → ℕ → Read Selected
+selectedOf b k = withSchema b alone k (λ schemas columns. ok (selected schemas columns))
+
+-- an opened schema says the columns in its slots of the table, which hold all schemas
+abbrev pub toldOpened : Opened → List ℕ → Read Selected
+toldOpened (opened.Block start count schemas) table = ok (selected (schemasIn 0 schemas table) (entriesIn start count table))
+toldOpened (opened.Refused e) table = refused e
+
+pub record Slots (start count schemas : ℕ) : Type 0 where
+  pub few : count ≤ mostColumns
+  pub inside : start + count ≤ mostFileColumns
+  pub some : 1 ≤ schemas
+  pub all : schemas ≤ mostFileColumns
+
+abbrev pub InSlots : Opened → Type 0
+InSlots (opened.Block start count schemas) = Slots start count schemas
+InSlots (opened.Refused e) = Unit {0}
+
+pub record Opening (b : Bytes) (k : ℕ) (table : List ℕ) (r : Opened) : Type 0 where
+  pub answers : toldOpened r table ≡ selectedOf b k
+  pub slots : InSlots r

@@ -1,4 +1,4 @@
--- The reader of a schema file, in document 01's order of checks.
+-- Promise: the reader of a schema file, in document 01's order of checks.
 -- Assumes nothing.
 use Prim.Native.Nat.{ℕ, zero, suc, _+_}
 use mathlib.Core.List.{List, [], _∷_, _++_}

@@ -1,4 +1,4 @@
--- The schemas of a file by their numbers (document 01's sheet numbers), and what is asked of them.
+-- Promise: the schemas of a file by their numbers (document 01's sheet numbers), and what is asked of them.
 -- Assumes nothing.
 use Prim.Native.Nat.{ℕ, _+_}
 use mathlib.Core.List.{List, [], _∷_, _++_}
@@ -76,13 +76,6 @@ schemaAt schemas k = do
 unfoldable pub columnsOf : List Schema → ℕ → List Entry
 columnsOf schemas k = getD schemas k (schema 0 []) .columns
 
--- column j of schema number k; error 18 where there is none
-unfoldable pub columnAt : List Schema → ℕ → ℕ → Read Entry
-columnAt schemas k j = do
-  s ← schemaAt schemas k
-  _ ← check (ltb j (length (s .columns))) 18 0
-  ok (getD (s .columns) j (entry 0 0 0 0))
-
 -- the number of the first schema with this id, of some whose first one has number k
 unfoldable pub numberFrom : ℕ → List Schema → ℕ → Option ℕ
 numberFrom k [] id = none
@@ -92,3 +85,12 @@ numberFrom k (s ∷ schemas) id = pick (eqb (s .id) id) (some k) (numberFrom (k 
 unfoldable pub childNumber : List Schema → ℕ → Option ℕ
 childNumber [] id = none
 childNumber (top ∷ nested) id = numberFrom 1 nested id
+
+-- Inner.
+
+-- column j of schema number k; error 18 where there is none
+unfoldable pub columnAt : List Schema → ℕ → ℕ → Read Entry
+columnAt schemas k j = do
+  s ← schemaAt schemas k
+  _ ← check (ltb j (length (s .columns))) 18 0
+  ok (getD (s .columns) j (entry 0 0 0 0))

@@ -1,4 +1,4 @@
--- The table that code keeps of a file: one list of numbers, with a slot for each column and then one for each schema.
+-- Promise: the table that code keeps of a file: one list of numbers, with a slot for each column and then one for each schema.
 -- The columns of a schema lie together: when its count is read, they get the next free slots at once.
 -- Assumes nothing.
 use Prim.Native.Nat.{ℕ, zero, suc, _+_, _*_, _-_, _/_, _%_}
@@ -20,10 +20,31 @@ schemaSlot k = mostFileColumns + k
 abbrev pub packed : (code flags maximum id : ℕ) → ℕ
 packed code flags maximum id = code + 256 * flags + 65536 * maximum + 4294967296 * id
 
+-- a schema in one number: the slot of its first column, how many columns it has, its id
+abbrev pub block : (start count id : ℕ) → ℕ
+block start count id = start + 65536 * count + 4294967296 * id
+
+-- the id in either of them
+abbrev pub idIn : ℕ → ℕ
+idIn slot = slot / 4294967296
+
+-- What a table says.
+-- the ids of m schemas from number k on
+unfoldable pub idsFrom : (k m : ℕ) → List ℕ → List ℕ
+idsFrom k zero table = []
+idsFrom k (suc m) table = idIn (getD table (schemaSlot k) 0) ∷ idsFrom (k + 1) m table
+
+-- the ids of the nested schemas, where there are k schemas: those of numbers 1 to k - 1
+unfoldable pub idsIn : ℕ → List ℕ → List ℕ
+idsIn k table = idsFrom 1 (k - 1) table
+
+-- Inner.
+
+-- a column of a schema in one number
 abbrev pub slotOf : Entry → ℕ
 slotOf e = packed (e .code) (e .flags) (e .maximum) (e .id)
 
--- and its parts again
+-- the parts of a column in one number
 abbrev pub codeIn : ℕ → ℕ
 codeIn slot = slot % 256
 
@@ -33,20 +54,12 @@ flagsIn slot = slot / 256 % 256
 abbrev pub maximumIn : ℕ → ℕ
 maximumIn slot = slot / 65536 % 65536
 
--- a schema in one number: the slot of its first column, how many columns it has, its id
-abbrev pub block : (start count id : ℕ) → ℕ
-block start count id = start + 65536 * count + 4294967296 * id
-
--- and its parts again
+-- the parts of a schema in one number
 abbrev pub startIn : ℕ → ℕ
 startIn slot = slot % 65536
 
 abbrev pub countIn : ℕ → ℕ
 countIn slot = slot / 65536 % 65536
-
--- the id in either of them
-abbrev pub idIn : ℕ → ℕ
-idIn slot = slot / 4294967296
 
 -- A table with the columns of a tree laid into it, in the order of the bytes. The first goes to slot i, n is the next free
 -- slot for columns of nested schemas, k the next schema number.
@@ -64,16 +77,6 @@ laySchema id t n k table = layColumns t n (n + columns t) (k + 1) (set table (sc
 -- a table with a whole file
 abbrev pub layFile : Tree → List ℕ → List ℕ
 layFile t table = laySchema 0 t 0 0 table
-
--- What a table says.
--- the ids of m schemas from number k on
-unfoldable pub idsFrom : (k m : ℕ) → List ℕ → List ℕ
-idsFrom k zero table = []
-idsFrom k (suc m) table = idIn (getD table (schemaSlot k) 0) ∷ idsFrom (k + 1) m table
-
--- the ids of the nested schemas, where there are k schemas: those of numbers 1 to k - 1
-unfoldable pub idsIn : ℕ → List ℕ → List ℕ
-idsIn k table = idsFrom 1 (k - 1) table
 
 -- the column in a slot
 abbrev pub entryIn : ℕ → Entry

@@ -1,4 +1,4 @@
--- What the code's answers say, in the terms of the reader that fills a table.
+-- Promise: what the code's answers say, in the terms of the reader that fills a table.
 -- Assumes nothing.
 use Prim.Native.Nat.{ℕ, _≤_}
 use mathlib.Core.Path.{_≡_}
@@ -17,14 +17,30 @@ use Rattle.schema.specs.Filling.{Filled, filled, fillFile}
 abbrev pub placed : Place → List ℕ → Filled
 placed p table = filled (p .at) (p .columns) (p .schemas) table
 
--- where a file starts
-abbrev pub origin : Place
-origin = record { at = 0; columns = 0; schemas = 0 }
-
 -- an answer with the table that the code leaves
 abbrev pub toldPlace : PlaceRead → List ℕ → Read Filled
 toldPlace (read p) table = ok (placed p table)
 toldPlace (Refused e) table = refused e
+
+-- a table with nothing in it
+abbrev pub blank : List ℕ
+blank = replicate tableSize 0
+
+-- the table of a file: zeros beside an error
+abbrev pub tableOf : Read Filled → List ℕ
+tableOf (ok f) = f .table
+tableOf (bad code offset about) = blank
+
+-- what the code promises of a whole file and its table by value
+pub record Tabled (b : Bytes) (r : FileTable) : Type 0 where
+  pub answers : toldPlace (r .read) (r .table) ≡ fillFile b blank
+  pub holds : r .table ≡ tableOf (fillFile b blank)
+
+-- Inner.
+
+-- where a file starts
+abbrev pub origin : Place
+origin = record { at = 0; columns = 0; schemas = 0 }
 
 -- The reader stands inside the input, has slots for the columns counted so far, and no more schemas than columns.
 pub record Ready (b : Bytes) (p : Place) : Type 0 where
@@ -47,17 +63,3 @@ Moves b p (Refused e) = Unit {0}
 pub record Told (b : Bytes) (p : Place) (filling : Read Filled) (exit : List ℕ) (r : PlaceRead) : Type 0 where
   pub answers : toldPlace r exit ≡ filling
   pub moves : Moves b p r
-
--- a table with nothing in it
-abbrev pub blank : List ℕ
-blank = replicate tableSize 0
-
--- the table of a file: zeros beside an error
-abbrev pub tableOf : Read Filled → List ℕ
-tableOf (ok f) = f .table
-tableOf (bad code offset about) = blank
-
--- what the code promises of a whole file and its table by value
-pub record Tabled (b : Bytes) (r : FileTable) : Type 0 where
-  pub answers : toldPlace (r .read) (r .table) ≡ fillFile b blank
-  pub holds : r .table ≡ tableOf (fillFile b blank)

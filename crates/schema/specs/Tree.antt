@@ -1,4 +1,4 @@
--- A schema file (document 01's column sheet) as a tree: its numbers, its bytes, and which trees are well formed.
+-- Promise: a schema file (document 01's column sheet) as a tree: its numbers, its bytes, and which trees are well formed.
 -- Assumes nothing.
 use Prim.Native.Nat.{ℕ, suc, _+_, _≤_, _<_, max}
 use mathlib.Core.Path.{_≡_}
@@ -59,6 +59,13 @@ columnNumbers (chapter flags id nested rest) = chapterCode ∷ flags ∷ id ∷ 
 unfoldable pub numbers : Tree → List ℕ
 numbers t = columns t ∷ columnNumbers t
 
+-- a number stands in a list
+unfoldable pub member : ℕ → List ℕ → Bool
+member x [] = false
+member x (y ∷ l) = pick (eqb x y) true (member x l)
+
+-- Inner.
+
 -- the bytes of a file
 unfoldable pub encode : Tree → Bytes
 encode t = allGroups (numbers t)
@@ -91,11 +98,6 @@ unfoldable pub depth : Tree → ℕ
 depth none = 1
 depth (field code flags maximum rest) = depth rest
 depth (chapter flags id nested rest) = max (1 + depth nested) (depth rest)
-
--- a number stands in a list
-unfoldable pub member : ℕ → List ℕ → Bool
-member x [] = false
-member x (y ∷ l) = pick (eqb x y) true (member x l)
 
 -- no number stands twice in a list
 pub data Distinct : List ℕ → Type 0 where

@@ -1,4 +1,4 @@
--- The writer of a schema file from its numbers, and the numbers of a file (document 01, "Column sheet" and the writers).
+-- Promise: the writer of a schema file from its numbers, and the numbers of a file (document 01, "Column sheet" and the writers).
 -- Assumes nothing.
 use Prim.Native.Nat.{ℕ, _+_, _*_, _≤_}
 use mathlib.Core.Path.{_≡_}
@@ -45,27 +45,12 @@ fileWritten ns capacity = do
   _ ← ofNumbers (readFile (coded ns))
   fitting (coded ns) capacity
 
--- What a buffer holds of the numbers' bytes: the first r, and all of them unless it has less than three bytes of room left.
-pub record Coded (ns : List ℕ) (buffer : Bytes) (r : ℕ) : Type 0 where
-  pub inside : r ≤ length buffer
-  pub rest : Bytes
-  pub splits : coded ns ≡ take r buffer ++ rest
-  pub all : r + 3 ≤ length buffer → rest ≡ []
-
 -- The numbers of a file, for a table of so many: what the reader refuses, then room (16, with the numbers that there are).
 unfoldable pub numbersListed : Bytes → ℕ → Read (List ℕ)
 numbersListed b capacity = do
   t ← about input.Schema (fileOf b)
   _ ← about input.Table (check (leb (length (numbers t)) capacity) 16 (length (numbers t)))
   ok (numbers t)
-
--- how many numbers these bytes have, if they are a file
-abbrev pub CountIs : Bytes → ℕ → Type 0
-CountIs b n = (t : Tree) → fileOf b ≡ ok t → n ≡ length (numbers t)
-
--- a table with their numbers at its start, if they are a file and it has room for all
-abbrev pub ListIs : Bytes → (entry exit : List ℕ) → Type 0
-ListIs b entry exit = (t : Tree) → fileOf b ≡ ok t → length (numbers t) ≤ length entry → exit ≡ put entry 0 (numbers t)
 
 -- what a `Listed` says
 abbrev pub toldListed : Listed → Read ℕ
@@ -76,3 +61,20 @@ toldListed (listed.Refused e) = refused e
 pub record Lists (ns : Read (List ℕ)) (entry exit : List ℕ) (answer : Listed) : Type 0 where
   pub answers : toldListed answer ≡ sizeOf ns
   pub leaves : exit ≡ outputAfter ns entry
+
+-- Inner.
+
+-- What a buffer holds of the numbers' bytes: the first r, and all of them unless it has less than three bytes of room left.
+pub record Coded (ns : List ℕ) (buffer : Bytes) (r : ℕ) : Type 0 where
+  pub inside : r ≤ length buffer
+  pub rest : Bytes
+  pub splits : coded ns ≡ take r buffer ++ rest
+  pub all : r + 3 ≤ length buffer → rest ≡ []
+
+-- how many numbers these bytes have, if they are a file
+abbrev pub CountIs : Bytes → ℕ → Type 0
+CountIs b n = (t : Tree) → fileOf b ≡ ok t → n ≡ length (numbers t)
+
+-- a table with their numbers at its start, if they are a file and it has room for all
+abbrev pub ListIs : Bytes → (entry exit : List ℕ) → Type 0
+ListIs b entry exit = (t : Tree) → fileOf b ≡ ok t → length (numbers t) ≤ length entry → exit ≡ put entry 0 (numbers t)

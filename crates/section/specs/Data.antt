@@ -1,4 +1,4 @@
--- The maps in front of row data, as code checks them.
+-- Inner: the maps in front of row data, as code checks them.
 -- Assumes nothing.
 use Prim.Native.Nat.{ℕ, _+_}
 use mathlib.Core.List.{List}

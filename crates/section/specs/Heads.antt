@@ -1,4 +1,4 @@
--- The head of an element: its token and child id with all checks of them, up to its data.
+-- Inner: the head of an element: its token and child id with all checks of them, up to its data.
 -- Assumes nothing.
 use Prim.Native.Nat.{ℕ, zero, suc, _+_}
 use mathlib.Core.List.{List, [], _∷_}

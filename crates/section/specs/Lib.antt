@@ -1,3 +1,5 @@
+pub mod Table
+-- Inner.
 pub mod Steps
 pub mod Spans
 pub mod Shapes
@@ -5,6 +7,5 @@ pub mod Maps
 pub mod Data
 pub mod Heads
 pub mod Ways
-pub mod Table
 pub mod Sizes
 pub mod Scan

@@ -1,4 +1,4 @@
--- Maps as numbers: the first 64 bits of a map in one number, its first bit on top, and masks of such bits.
+-- Inner: maps as numbers: the first 64 bits of a map in one number, its first bit on top, and masks of such bits.
 -- Assumes nothing.
 use Prim.Native.Nat.{ℕ, zero, suc, _+_, _*_, _-_, _/_, _%_, _^_, _<_, _≤_}
 use mathlib.Core.Path.{_≡_}

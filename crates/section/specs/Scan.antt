@@ -1,4 +1,4 @@
--- What one pass over a section promises, whatever room the table has.
+-- Inner: what one pass over a section promises, whatever room the table has.
 -- Assumes nothing.
 use Prim.Native.Nat.{ℕ, _+_, _*_}
 use mathlib.Core.Path.{_≡_}

@@ -1,4 +1,4 @@
--- What code keeps of a file's schemas for reading rows quickly, as numbers: a word for each step, and a form for each schema.
+-- Inner: what code keeps of a file's schemas for reading rows quickly, as numbers: a word for each step, and a form for each schema.
 -- Assumes nothing.
 use Prim.Native.Nat.{ℕ, _+_, _*_, _/_, _%_, _<_, _≤_}
 use mathlib.Core.Path.{_≡_}

@@ -1,4 +1,4 @@
--- The sizes of elements, noted by the pass that checks a section for the one that fills its table.
+-- Inner: the sizes of elements, noted by the pass that checks a section for the one that fills its table.
 -- Assumes nothing.
 use Prim.Native.Nat.{ℕ, zero, suc, _+_, _*_, _-_, _/_, _%_, _<_, _≤_}
 use mathlib.Core.Path.{_≡_}

@@ -1,4 +1,4 @@
--- What code says of the bytes of a field.
+-- Inner: what code says of the bytes of a field.
 -- Assumes nothing.
 use Prim.Native.Nat.{ℕ, _+_, _*_, _≤_}
 use mathlib.Core.Logic.{_⊎_}

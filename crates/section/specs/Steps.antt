@@ -1,5 +1,5 @@
--- Steps: the way over the fields of a row's data that code follows, from one column whose field depends on the row to the next, instead of
--- going from column to column. It ends where the walk ends (proofs/Leap.antt: `leap-walk`).
+-- Inner: steps: the way over the fields of a row's data that code follows, from one column whose field depends on the row to the next, instead
+-- of going from column to column. It ends where the walk ends (proofs/Leap.antt: `leap-walk`).
 -- Assumes nothing.
 use Prim.Native.Nat.{ℕ, _+_}
 use mathlib.Core.List.{List, [], _∷_}

@@ -1,4 +1,4 @@
--- The row table that a caller lends (document 01, "Rows"): four numbers a row.
+-- Promise: the row table that a caller lends (document 01, "Rows"): four numbers a row.
 -- Assumes nothing.
 use Prim.Native.Nat.{ℕ, _+_, _*_, _/_}
 use mathlib.Core.Path.{_≡_}

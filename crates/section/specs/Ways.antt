@@ -1,4 +1,4 @@
--- The way over one row's data, as code is led over it by words.
+-- Inner: the way over one row's data, as code is led over it by words.
 -- Assumes nothing.
 use Prim.Native.Nat.{ℕ, _+_, _<_, _≤_}
 use mathlib.Core.Path.{_≡_}

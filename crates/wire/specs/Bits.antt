@@ -1,4 +1,4 @@
--- Maps of bits: presence, update and force-null maps.
+-- Promise: maps of bits: presence, update and force-null maps.
 -- Assumes nothing.
 use Prim.Native.Nat.{ℕ, _+_, _-_, _/_, _%_, _^_}
 use mathlib.Core.Bool.{Bool}

@@ -1,4 +1,4 @@
--- Errors: the number that document 01 gives each kind (its table of refusals), and a number for each input's name.
+-- Promise: errors: the number that document 01 gives each kind (its table of refusals), and a number for each input's name.
 -- Assumes nothing.
 use Prim.Native.Nat.{ℕ}
 use Rattle.wire.specs.declared.error.ErrorKind.{ErrorKind}

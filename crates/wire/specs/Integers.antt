@@ -1,4 +1,4 @@
--- Whole numbers on the wire: little-endian. Every integer of the format is read by `intAt` and written by `intBytes`.
+-- Promise: whole numbers on the wire: little-endian. Every integer of the format is read by `intAt` and written by `intBytes`.
 -- Assumes nothing.
 use Prim.Native.Nat.{ℕ, zero, suc, _+_, _*_, _/_, _%_}
 use mathlib.Core.List.{List, [], _∷_}

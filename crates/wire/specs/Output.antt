@@ -1,4 +1,4 @@
--- What a writer leaves in the output that it was lent.
+-- Promise: what a writer leaves in the output that it was lent.
 -- Assumes nothing.
 use Prim.Native.Nat.{ℕ, _+_}
 use mathlib.Core.Path.{_≡_}

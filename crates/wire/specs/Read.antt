@@ -1,4 +1,4 @@
--- What every reader is made of: an answer or the first error, and bytes that are there or not.
+-- Promise: what every reader is made of: an answer or the first error, and bytes that are there or not.
 -- Assumes nothing.
 use Prim.Native.Nat.{ℕ, _+_, _<_}
 use mathlib.Core.List.{List, [], _∷_}
