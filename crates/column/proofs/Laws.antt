@@ -4,10 +4,11 @@ use Prim.Native.Nat.{ℕ, zero, suc, _+_, _*_, _-_, _%_, _≤_, _<_}
 use mathlib.Core.List.{List, [], _∷_}
 use mathlib.Core.Bool.{Bool, true, false, true≢false}
 use mathlib.Core.Path.{_≡_, refl, sym, ap, _∙_}
+use mathlib.Core.Logic.{_⊎_, inl, inr}
 use native.Mathlib.Omega.{arith, by-contra, not-le}
 use lib.ListN.{length, take}
 use lib.Seq.{take-take}
-use lib.Dec.{eqb}
+use lib.Dec.{leb, eqb}
 use borrow.Author.Tests.{lt-ltb, le-ltb, le-leb, lt-leb, ne-eqb, eqb-true, eqb-false}
 use Rattle.wire.specs.declared.error.ErrorKind.{ErrorKind}
 use Rattle.wire.specs.declared.error.ErrorKind.the-variants as error
@@ -23,7 +24,7 @@ use Rattle.column.specs.declared.field.Field.{Field}
 use Rattle.column.specs.declared.types.Kind.{Kind}
 use Rattle.column.specs.declared.types.Kind.the-variants.{Fixed, Variable, Wide, Chapter, Unknown}
 use Rattle.column.specs.Types.{chapterCode, Entry, types, kindIn, kindOf, variableKind, chapterKind}
-use Rattle.column.specs.Columns.{kind, width, isVariable, isChapter, prefixSize, prefixBytes, lengthErrorOf, lengthError}
+use Rattle.column.specs.Columns.{kind, width, isVariable, isWide, isChapter, prefixSize, prefixBytes, greatest, lengthErrorOf, lengthError}
 use Rattle.column.specs.Fields.{field, allowed, bytesAt, variableAt, fieldAt}
 
 -- Answers and errors.
@@ -154,44 +155,80 @@ module _ (c : Column) where
       go false false a b =
           absurd (true≢false (sym v ∙ sym (wide-code (eqb-false (c .code) 0x80 a) (eqb-false (c .code) 0x81 b)) ∙ ne-eqb (c .code) 0x82 w))
 
-  -- the error of a length, by the code
-  module _ (n : ℕ) where
-    pub length-told : {v : Kind} {r : ℕ} → kind c ≡ v → lengthErrorOf v (c .maximum) n ≡ r → r ≡ lengthError c n
-    unfolding lengthError
-    length-told g h = sym h ∙ ap (λ (j : Kind). lengthErrorOf j (c .maximum) n) (sym g)
+  -- the greatest length and whether it must be even, by the kind
+  pub wide-kind : kind c ≡ Wide → (greatest c ≡ 2 * c .maximum) × (isWide c ≡ true)
+  unfolding greatest
+  wide-kind e = (rw e refl, rw e refl)
 
+  pub plain-kind : kind c ≡ Variable → (greatest c ≡ c .maximum) × (isWide c ≡ false)
+  unfolding greatest
+  plain-kind e = (rw e refl, rw e refl)
+
+  -- the error of a length
+  module _ (n : ℕ) where
     pub length-free : isVariable c ≡ false → 0 ≡ lengthError c n
     unfolding lengthError
-    length-free v = go (kind c) v
-      where
-        go : (k : Kind) → variableKind k ≡ false → 0 ≡ lengthErrorOf k (c .maximum) n
-        go (Fixed w) e = refl
-        go Variable e = absurd (true≢false e)
-        go Wide e = absurd (true≢false e)
-        go Chapter e = refl
-        go Unknown e = refl
+    length-free v = rw v
+
+    -- where the column carries one: the rule with its greatest length
+    pub length-rule : isVariable c ≡ true → lengthError c n ≡ lengthErrorOf (greatest c) (isWide c) n
+    unfolding lengthError
+    length-rule v = rw v
+
+    -- by the kind
+    pub length-plain : kind c ≡ Variable → lengthError c n ≡ pick (leb n (c .maximum)) 0 14
+    unfolding lengthErrorOf
+    length-plain e = let (g, w) = plain-kind e in length-rule (rw e refl) ∙ rw (g, w) refl
+
+    pub length-wide : kind c ≡ Wide → lengthError c n ≡ pick (leb n (2 * c .maximum)) (pick (eqb (n % 2) 0) 0 14) 14
+    unfolding lengthErrorOf
+    length-wide e = let (g, w) = wide-kind e in length-rule (rw e refl) ∙ rw (g, w) refl
 
     module _ (w : c .code ≡ 0x82 → ⊥) where
       pub length-over : isVariable c ≡ true → c .maximum < n → 14 ≡ lengthError c n
-      length-over v h = length-told (kind-plain w v) (rw (lt-leb n (c .maximum) h))
+      length-over v h = sym (length-plain (kind-plain w v) ∙ rw (lt-leb n (c .maximum) h))
 
       pub length-within : n ≤ c .maximum → 0 ≡ lengthError c n
       length-within h = go (isVariable c) refl
         where
           go : (t : Bool) → isVariable c ≡ t → 0 ≡ lengthError c n
-          go true v = length-told (kind-plain w v) (rw (le-leb n (c .maximum) h))
+          go true v = sym (length-plain (kind-plain w v) ∙ rw (le-leb n (c .maximum) h))
           go false v = length-free v
 
     module _ (e : c .code ≡ 0x82) where
       pub wide-over : 2 * c .maximum < n → 14 ≡ lengthError c n
-      wide-over h = length-told (kind-wide e) (rw (lt-leb n (2 * c .maximum) h))
+      wide-over h = sym (length-wide (kind-wide e) ∙ rw (lt-leb n (2 * c .maximum) h))
 
       module _ (h : n ≤ 2 * c .maximum) where
         pub wide-odd : (n % 2 ≡ 0 → ⊥) → 14 ≡ lengthError c n
-        wide-odd o = length-told (kind-wide e) (rw (le-leb n (2 * c .maximum) h, ne-eqb _ _ o))
+        wide-odd o = sym (length-wide (kind-wide e) ∙ rw (le-leb n (2 * c .maximum) h, ne-eqb _ _ o))
 
         pub wide-within : n % 2 ≡ 0 → 0 ≡ lengthError c n
-        wide-within o = length-told (kind-wide e) (rw (le-leb n (2 * c .maximum) h, o))
+        wide-within o = sym (length-wide (kind-wide e) ∙ rw (le-leb n (2 * c .maximum) h, o))
+
+-- what the error of a length is, by its number: none, or 14
+pub length-rule-either : (most : ℕ) (even : Bool) (n : ℕ) → (lengthErrorOf most even n ≡ 0) ⊎ (lengthErrorOf most even n ≡ 14)
+unfolding lengthErrorOf
+length-rule-either most even n = go (leb n most) even (eqb (n % 2) 0)
+  where
+    go : (t e u : Bool) → (_≡_ {A = ℕ} (pick t (pick e (pick u 0 14) 0) 14) 0) ⊎ (_≡_ {A = ℕ} (pick t (pick e (pick u 0 14) 0) 14) 14)
+    go true true true = inl refl
+    go true true false = inr refl
+    go true false u = inl refl
+    go false e u = inr refl
+
+pub length-either : (c : Column) (n : ℕ) → (lengthError c n ≡ 0) ⊎ (lengthError c n ≡ 14)
+length-either c n = go (isVariable c) refl
+  where
+    go : (t : Bool) → isVariable c ≡ t → (lengthError c n ≡ 0) ⊎ (lengthError c n ≡ 14)
+    go true v = by (length-rule-either (greatest c) (isWide c) n)
+      where
+        by :
+            (lengthErrorOf (greatest c) (isWide c) n ≡ 0) ⊎ (lengthErrorOf (greatest c) (isWide c) n ≡ 14) →
+            (lengthError c n ≡ 0) ⊎ (lengthError c n ≡ 14)
+        by (inl e) = inl (length-rule c n v ∙ e)
+        by (inr e) = inr (length-rule c n v ∙ e)
+    go false v = inl (sym (length-free c n v))
 
 -- A field of so many bytes.
 
@@ -342,13 +379,14 @@ field-later c row other p {f} h q l =
     })
 
 -- a length of no bytes is allowed
+pub rule-none : (most : ℕ) (even : Bool) → lengthErrorOf most even 0 ≡ 0
+unfolding lengthErrorOf
+rule-none most true = rw (le-leb 0 most (omega arith))
+rule-none most false = rw (le-leb 0 most (omega arith))
+
 pub length-none : (c : Column) → lengthError c 0 ≡ 0
-unfolding lengthError
-length-none c = go (kind c)
+length-none c = go (isVariable c) refl
   where
-    go : (k : Kind) → lengthErrorOf k (c .maximum) 0 ≡ 0
-    go (Fixed w) = refl
-    go Variable = rw (le-leb 0 (c .maximum) (omega arith))
-    go Wide = rw (le-leb 0 (2 * c .maximum) (omega arith))
-    go Chapter = refl
-    go Unknown = refl
+    go : (t : Bool) → isVariable c ≡ t → lengthError c 0 ≡ 0
+    go true v = length-rule c 0 v ∙ rule-none (greatest c) (isWide c)
+    go false v = sym (length-free c 0 v)

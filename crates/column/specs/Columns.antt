@@ -9,8 +9,7 @@ use Rattle.column.specs.declared.column.Column.{Column}
 use Rattle.column.specs.declared.column.LengthCheck.{LengthCheck}
 use Rattle.column.specs.declared.column.LengthCheck.the-variants.{Allowed, Refused}
 use Rattle.column.specs.declared.types.Kind.{Kind}
-use Rattle.column.specs.declared.types.Kind.the-variants.{Fixed, Variable, Wide, Chapter, Unknown}
-use Rattle.column.specs.Types.{kindOf, widthOf, variableKind, chapterKind}
+use Rattle.column.specs.Types.{kindOf, widthOf, variableKind, wideKind, chapterKind}
 
 abbrev pub kind : Column → Kind
 kind c = kindOf (c .code)
@@ -20,6 +19,9 @@ width c = widthOf (kind c)
 
 abbrev pub isVariable : Column → Bool
 isVariable c = variableKind (kind c)
+
+abbrev pub isWide : Column → Bool
+isWide c = wideKind (kind c)
 
 abbrev pub isChapter : Column → Bool
 isChapter c = chapterKind (kind c)
@@ -40,17 +42,17 @@ unfoldable pub prefixBytes : Column → ℕ
 unfolding prefixSize
 prefixBytes c = pick (isVariable c) (prefixSize c) 0
 
--- The error that a length of so many bytes is, by its number; 0 where it is allowed.
--- It may reach the maximum; in wide text twice the maximum, and it must be even.
-abbrev pub lengthErrorOf : Kind → ℕ → ℕ → ℕ
-lengthErrorOf (Fixed w) maximum size = 0
-lengthErrorOf Variable maximum size = pick (leb size maximum) 0 14
-lengthErrorOf Wide maximum size = pick (leb size (2 * maximum)) (pick (eqb (size % 2) 0) 0 14) 14
-lengthErrorOf Chapter maximum size = 0
-lengthErrorOf Unknown maximum size = 0
+-- the greatest length in bytes: the maximum, in wide text twice the maximum
+unfoldable pub greatest : Column → ℕ
+greatest c = pick (isWide c) (2 * c .maximum) (c .maximum)
 
+-- The error that a length of so many bytes is, by its number; 0 where it is allowed. It may reach the greatest one; some must be even.
+unfoldable pub lengthErrorOf : (most : ℕ) (even : Bool) (size : ℕ) → ℕ
+lengthErrorOf most even size = pick (leb size most) (pick even (pick (eqb (size % 2) 0) 0 14) 0) 14
+
+-- in a column: that of wide text must be even; a column that carries no length refuses none
 unfoldable pub lengthError : Column → ℕ → ℕ
-lengthError c size = lengthErrorOf (kind c) (c .maximum) size
+lengthError c size = pick (isVariable c) (lengthErrorOf (greatest c) (isWide c) size) 0
 
 -- what a `LengthCheck` says
 abbrev pub toldLength : LengthCheck → ℕ

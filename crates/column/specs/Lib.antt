@@ -2,3 +2,5 @@ pub mod Types
 pub mod Columns
 pub mod Fields
 pub mod Layout
+pub mod Packed
+pub mod Stops

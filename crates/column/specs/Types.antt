@@ -52,6 +52,14 @@ variableKind Wide = true
 variableKind Chapter = false
 variableKind Unknown = false
 
+-- the length counts bytes of wide text
+abbrev pub wideKind : Kind → Bool
+wideKind (Fixed w) = false
+wideKind Variable = false
+wideKind Wide = true
+wideKind Chapter = false
+wideKind Unknown = false
+
 abbrev pub chapterKind : Kind → Bool
 chapterKind (Fixed w) = false
 chapterKind Variable = false

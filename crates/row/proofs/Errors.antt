@@ -1,9 +1,10 @@
 -- Error 1 stands at the length of the row.
 -- Assumes nothing.
-use Prim.Native.Nat.{ℕ, zero, suc, _+_, _*_, _%_}
+use Prim.Native.Nat.{ℕ, zero, suc, _+_, _*_}
 use mathlib.Core.List.{List, [], _∷_}
 use mathlib.Core.Bool.{Bool, true, false, not}
 use mathlib.Core.Path.{_≡_, refl, sym, _∙_}
+use mathlib.Core.Logic.{_⊎_, inl, inr}
 use native.Mathlib.Omega.{arith}
 use lib.ListN.{length, getD}
 use lib.Dec.{leb, ltb, eqb}
@@ -12,10 +13,9 @@ use Rattle.wire.specs.declared.error.Input.the-variants as input
 use Rattle.wire.specs.Read.{Bytes, Read, ok, bad, _>>=_, pick, check, about, limit, sizedBy, sized, whole}
 use Rattle.wire.specs.Integers.{readInt}
 use Rattle.column.specs.declared.column.Column.{Column}
-use Rattle.column.specs.declared.types.Kind.{Kind}
-use Rattle.column.specs.declared.types.Kind.the-variants.{Fixed, Variable, Wide, Chapter, Unknown}
-use Rattle.column.specs.Columns.{kind, width, isVariable, isChapter, prefixSize, lengthErrorOf, lengthError}
+use Rattle.column.specs.Columns.{width, isVariable, isChapter, prefixSize, lengthError}
 use Rattle.column.specs.Fields.{allowed, bytesAt, variableAt, fieldAt}
+use Rattle.column.proofs.Laws.{length-either}
 use Rattle.row.specs.Presence.{noColumn, presenceBytes, Mark, marks, markOf, present, clear}
 use Rattle.row.specs.Rows.{Place, step, walk, arrive, opened, walked, rowEnd, fieldOf, columnOf, known, lookUp, lookUpRow, fieldCount}
 
@@ -54,21 +54,12 @@ short-told {o = o} (refused {code = c} {offset = p} h) e =
     sym v ∙ h u
 
 -- the error of a length is not 1
-length-not-one : (k : Kind) (maximum n : ℕ) → lengthErrorOf k maximum n ≡ 1 → ⊥
-length-not-one (Fixed w) m n e = omega arith
-length-not-one Variable m n e = go (leb n m) e
+length-not-one : (c : Column) (n : ℕ) → lengthError c n ≡ 1 → ⊥
+length-not-one c n e = go (length-either c n)
   where
-    go : (t : Bool) → _≡_ {A = ℕ} (pick t 0 14) 1 → ⊥
-    go true e = omega arith
-    go false e = omega arith
-length-not-one Wide m n e = go (leb n (2 * m)) (eqb (n % 2) 0) e
-  where
-    go : (t u : Bool) → _≡_ {A = ℕ} (pick t (pick u 0 14) 14) 1 → ⊥
-    go true true e = omega arith
-    go true false e = omega arith
-    go false u e = omega arith
-length-not-one Chapter m n e = omega arith
-length-not-one Unknown m n e = omega arith
+    go : (lengthError c n ≡ 0) ⊎ (lengthError c n ≡ 14) → ⊥
+    go (inl z) = omega arith
+    go (inr z) = omega arith
 
 module _ (row : Bytes) where
   pub short-whole : (at n : ℕ) → ShortAt (length row) (whole row at n)
@@ -84,9 +75,8 @@ module _ (row : Bytes) where
   short-bytes at w n = short-bind (short-whole at w) (λ _. answered)
 
   short-allowed : (c : Column) (n at : ℕ) → ShortAt (length row) (allowed (lengthError c n) at)
-  unfolding allowed lengthError
-  short-allowed c n at =
-      short-pick (eqb (lengthErrorOf (kind c) (c .maximum) n) 0) answered (refused (λ e. absurd (length-not-one (kind c) (c .maximum) n e)))
+  unfolding allowed
+  short-allowed c n at = short-pick (eqb (lengthError c n) 0) answered (refused (λ e. absurd (length-not-one c n e)))
 
   short-variable : (c : Column) (at : ℕ) → ShortAt (length row) (variableAt c row at)
   unfolding variableAt

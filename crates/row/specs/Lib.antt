@@ -3,5 +3,6 @@ pub mod Rows
 pub mod Told
 pub mod Updates
 pub mod Parts
+pub mod Leaps
 -- Inner.
 pub mod Examples
