@@ -89,3 +89,7 @@ pub record Fits (t : Stop) : Type 0 where
   pub bit : t .bit < 64
   pub size : t .size < 32
   pub most : t .most < 4294967296
+
+-- what stands for the stop at a number past the last
+abbrev pub noStop : Stop
+noStop = record { gap = 0; bit = 0; free = false; variable = false; long = false; even = false; size = 0; most = 0 }

@@ -8,6 +8,7 @@ pub mod UpdateLaws
 pub mod UpdateFound
 pub mod UpdateLater
 pub mod CurrentValues
+pub mod Leap
 pub mod Parts
 pub mod Shift
 pub mod Reserved

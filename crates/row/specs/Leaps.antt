@@ -2,16 +2,18 @@
 -- Assumes nothing.
 use Prim.Native.Nat.{ℕ, _+_}
 use mathlib.Core.List.{List, [], _∷_}
-use mathlib.Core.Bool.{Bool, true}
-use lib.ListN.{length}
+use mathlib.Core.Bool.{Bool, true, false, not}
+use lib.ListN.{length, drop}
 use lib.Dec.{leb, eqb}
 use Rattle.wire.specs.declared.error.Input.the-variants as input
 use Rattle.wire.specs.Read.{Bytes, Read, ok, bad, _>>=_, pick}
+use Rattle.wire.specs.Bits.{bitSet}
 use Rattle.column.specs.declared.column.Column.{Column}
 use Rattle.column.specs.Columns.{width}
 use Rattle.column.specs.Stops.{Stop, stopOf, there, spanAt, spanError}
-use Rattle.row.specs.Presence.{Mark, one}
+use Rattle.row.specs.Presence.{Mark, one, count}
 use Rattle.row.specs.Rows.{Place, place}
+use Rattle.row.specs.Updates.{updateBytes}
 
 -- The stops among columns, in their order, with so many bytes in front of the first column: which columns are stops, and of which a row may
 -- lack the field, is given.
@@ -56,3 +58,11 @@ unfoldable pub leap : (on : ℕ → Bool) → Bytes → List Stop → (tail : �
 leap on s ts tail w = do
   v ← leaps on s ts w
   inside s (place (v .at + tail) (v .prefixes))
+
+-- update 1 and force 0 in column b of the update data at `at`
+unfoldable pub carriedBit : List Column → Bytes → (at : ℕ) → (b : ℕ) → Bool
+carriedBit cs s at b = pick (bitSet (drop at s) b) (not (bitSet (drop (at + updateBytes cs) s) b)) false
+
+-- how many of the columns are stops
+abbrev pub stopCount : (stop : Column → Bool) → List Mark → ℕ
+stopCount stop ms = count (λ (m : Mark). stop (m .column)) ms
