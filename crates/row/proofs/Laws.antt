@@ -62,16 +62,16 @@ bit-below cs zero = omega arith
 bit-below [] (suc i) = omega arith
 bit-below (c ∷ cs) (suc i) = omega (arith, bit-below cs i)
 
+pub one-most : (b : Bool) → one b ≤ 1
+one-most true = omega arith
+one-most false = omega arith
+
 -- at most one a column
 pub bit-few : (cs : List Column) (i : ℕ) → bitOf cs i ≤ i
 unfolding bitOf nullables
 bit-few cs zero = omega arith
 bit-few [] (suc i) = omega arith
 bit-few (c ∷ cs) (suc i) = omega (arith, bit-few cs i, one-most (isNullable c))
-  where
-    one-most : (b : Bool) → one b ≤ 1
-    one-most true = omega arith
-    one-most false = omega arith
 
 -- The mark of a column.
 

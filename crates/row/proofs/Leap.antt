@@ -21,13 +21,13 @@ use Rattle.column.specs.declared.field.Field.{Field}
 use Rattle.column.specs.Columns.{width, isVariable, isChapter, isNullable, isStop, prefixSize, lengthErrorOf, lengthError}
 use Rattle.column.specs.Fields.{field, bytesAt, variableAt, fieldAt}
 use Rattle.column.specs.Stops.{Stop, stopOf, prefixOf, there, lengthAt, spanAt, spanError, noStop}
-use Rattle.column.proofs.Laws.{length-rule, length-none, variable-short, variable-long, variable-bytes, field-variable, field-fixed, field-past}
+use Rattle.column.proofs.Laws.{length-rule, length-none, bytes-short, bytes-fit, variable-short, variable-long, variable-bytes, field-variable, field-fixed, field-past}
 use Rattle.column.proofs.Stops.{chapter-bare, stop-chapter, no-stop}
 use Rattle.row.specs.Presence.{noColumn, one, presenceBytes, Mark, noMark, marks, present, count}
 use Rattle.row.specs.Rows.{Place, place, past, step, walk, arrive, opened, walked, rowEnd}
 use Rattle.row.specs.Updates.{numbered, updateBytes, carried, carriedIn, updateOpened, updateWalked, updateEnd}
 use Rattle.row.specs.Leaps.{stopsFrom, tailFrom, anyColumn, passed, leaps, inside, leap, carriedBit, stopCount}
-use Rattle.row.proofs.Laws.{bind-of, bind-bad, length-marks, present-chapter, present-always, step-absent}
+use Rattle.row.proofs.Laws.{bind-of, bind-bad, one-most, length-marks, present-chapter, present-always, step-absent}
 use Rattle.row.proofs.Found.{opened-ok}
 use Rattle.row.proofs.UpdateLaws.{length-numbered, number-at}
 use Rattle.row.proofs.UpdateFound.{update-opened-ok}
@@ -59,6 +59,10 @@ module _ (s : Bytes) (w : Place) where
 
 -- A stop with a length, and one without.
 
+-- where the way leads past its field
+abbrev onward : Stop → Bytes → (p n : ℕ) → Read Place
+onward t s p n = pick (eqb (spanError t s p) 0) (inside s (place (p + spanAt t s p) (n + one (t .variable)))) (bad (spanError t s p) p input.Single)
+
 module _ (t : Stop) (s : Bytes) (p : ℕ) where
   module _ (v : t .variable ≡ true) where
     pub span-long : spanAt t s p ≡ prefixOf t + lengthAt t s p
@@ -78,11 +82,23 @@ module _ (t : Stop) (s : Bytes) (p : ℕ) where
     unfolding spanError
     error-plain = rw v refl
 
+-- a field of so many bytes: they end in the input, or past it
+bytes-end : (s : Bytes) (at w k n p : ℕ) → bytesAt s at w k >>= (λ (f : Field). ok (past (place p n) f)) ≡ inside s (place (at + w) (n + k))
+bytes-end s at w k n p = go (leb (at + w) (length s)) refl
+  where
+    go : (t : Bool) → leb (at + w) (length s) ≡ t → bytesAt s at w k >>= (λ (f : Field). ok (past (place p n) f)) ≡ inside s (place (at + w) (n + k))
+    go true e = let h = leb-true _ _ e in rw (bytes-fit s at w k h, inside-in s (place (at + w) (n + k)) h) refl
+    go false e = let h = leb-false _ _ e in rw (bytes-short s at w k h, inside-past s (place (at + w) (n + k)) h) refl
+
 -- The stop of a column: its bytes and the error of its length.
 
 module _ (free : Bool) (c : Column) (gap bit : ℕ) where
   abbrev own : Stop
   own = stopOf free c gap bit
+
+  own-variable : own .variable ≡ isVariable c
+  unfolding stopOf
+  own-variable = refl
 
   pub prefix-stop : prefixOf own ≡ prefixSize c
   unfolding stopOf prefixSize
@@ -125,52 +141,29 @@ module _ (free : Bool) (c : Column) (gap bit : ℕ) where
       unfolding stopOf
       error-fixed = error-plain own s p v
 
--- a field of so many bytes: they end in the input, or past it
-bytes-end : (s : Bytes) (at w k n : ℕ) (p : ℕ) → bytesAt s at w k >>= (λ (f : Field). ok (past (place p n) f)) ≡ inside s (place (at + w) (n + k))
-unfolding bytesAt whole check inside
-bytes-end s at w k n p = go (leb (at + w) (length s))
-  where
-    go :
-        (t : Bool) →
-        ((check t 1 (length s) >>= (λ (_ : Unit {0}). ok (at + w))) >>= (λ (e : ℕ). ok (field at e k))) >>= (λ (f : Field). ok (past (place p n) f))
-        ≡ pick t (ok (place (at + w) (n + k))) (bad 1 (length s) input.Single)
-    go true = refl
-    go false = refl
-
--- behind a field of a column: by its stop
-module _ (free : Bool) (c : Column) (gap bit : ℕ) (s : Bytes) (p n : ℕ) where
-  abbrev onward : (error span : ℕ) → Read Place
-  onward error span = pick (eqb error 0) (inside s (place (p + span) (n + one (isVariable c)))) (bad error p input.Single)
-
-  abbrev behind : Field → Read Place
-  behind f = ok (past (place p n) f)
-
-  field-stop : fieldAt c s p >>= behind ≡ onward (spanError (stopOf free c gap bit) s p) (spanAt (stopOf free c gap bit) s p)
-  field-stop = go (isVariable c) refl
-    where
-      whole :
-          (z : ℕ) → isVariable c ≡ true → readInt s p (prefixSize c) ≡ ok z → (u : Bool) → eqb (lengthError c z) 0 ≡ u →
-          variableAt c s p >>= behind ≡ onward (lengthError c z) (prefixSize c + z)
-      whole z v e true u =
-          let q : p + (prefixSize c + z) ≡ p + prefixSize c + z = omega arith in
-          rw (variable-bytes c s p z e (eqb-true _ _ u), u, v, q) (bytes-end s (p + prefixSize c) z 1 n p)
-      whole z v e false u = rw (variable-long c s p z e (eqb-false _ _ u), u) refl
-
-      by :
-          isVariable c ≡ true → (u : Bool) → leb (p + prefixSize c) (length s) ≡ u →
-          variableAt c s p >>= behind ≡ onward (lengthError c (lengthAt (stopOf free c gap bit) s p)) (prefixSize c + lengthAt (stopOf free c gap bit) s p)
-      by v true u =
-          let h : p + prefixSize c ≤ length s = leb-true _ _ u in
-          rw (length-whole free c gap bit s p h) (whole (intAt s p (prefixSize c)) v (int-fits s p (prefixSize c) h) _ refl)
-      by v false u =
-          let h : length s < p + prefixSize c = leb-false _ _ u in
-          let q : length s < p + (prefixSize c + 0) = omega arith in
-          rw (variable-short c s p h, length-short free c gap bit s p h, length-none c) (sym (inside-past s _ q))
-
-      go : (v : Bool) → isVariable c ≡ v → fieldAt c s p >>= behind ≡ onward (spanError (stopOf free c gap bit) s p) (spanAt (stopOf free c gap bit) s p)
-      go false v = rw (field-fixed c s p v, error-fixed free c gap bit s p v, span-fixed free c gap bit s p v, v) (bytes-end s p (width c) 0 n p)
-      go true v =
-          rw (field-variable c s p v, error-variable free c gap bit s p v, span-variable free c gap bit s p v) (by v (leb (p + prefixSize c) (length s)) refl)
+    -- behind a field
+    field-stop : (n : ℕ) → fieldAt c s p >>= (λ (f : Field). ok (past (place p n) f)) ≡ onward own s p n
+    field-stop n =
+        go (isVariable c) (leb (p + prefixSize c) (length s)) (eqb (lengthError c (intAt s p (prefixSize c))) 0) refl refl refl
+      where
+        go :
+            (v u e : Bool) → isVariable c ≡ v → leb (p + prefixSize c) (length s) ≡ u → eqb (lengthError c (intAt s p (prefixSize c))) 0 ≡ e →
+            fieldAt c s p >>= (λ (f : Field). ok (past (place p n) f)) ≡ onward own s p n
+        go false u e v _ _ = rw (field-fixed c s p v, error-fixed v, span-fixed v, own-variable, v) (bytes-end s p (width c) 0 n p)
+        go true false e v u _ =
+            let h : length s < p + prefixSize c = leb-false _ _ u in
+            let q : length s < p + (prefixSize c + 0) = omega arith in
+            rw (field-variable c s p v, variable-short c s p h, error-short v h, span-variable v, length-short h) (sym (inside-past s _ q))
+        go true true true v u e =
+            let h : p + prefixSize c ≤ length s = leb-true _ _ u in
+            let z : ℕ = intAt s p (prefixSize c) in
+            let q : p + (prefixSize c + z) ≡ p + prefixSize c + z = omega arith in
+            let b = variable-bytes c s p z (int-fits s p (prefixSize c) h) (eqb-true _ _ e) in
+            rw (field-variable c s p v, b, error-whole v h, span-variable v, length-whole h, e, q, own-variable, v)
+            (bytes-end s (p + prefixSize c) z 1 n p)
+        go true true false v u e =
+            let h : p + prefixSize c ≤ length s = leb-true _ _ u in
+            rw (field-variable c s p v, variable-long c s p _ (int-fits s p (prefixSize c) h) (eqb-false _ _ e), error-whole v h, e) refl
 
 -- Which columns have a field.
 
@@ -189,10 +182,7 @@ module _ (has : Mark → Bool) (s : Bytes) (m : Mark) (p n : ℕ) where
   unfolding step
   step-present w e = rw e refl
 
-  step-there :
-      (free : Bool) (gap : ℕ) → has m ≡ true →
-      inside s (place p n) >>= step has s m
-      ≡ onward free (m .column) gap (m .bit) s p n (spanError (stopOf free (m .column) gap (m .bit)) s p) (spanAt (stopOf free (m .column) gap (m .bit)) s p)
+  step-there : (free : Bool) (gap : ℕ) → has m ≡ true → inside s (place p n) >>= step has s m ≡ onward (stopOf free (m .column) gap (m .bit)) s p n
   step-there free gap e =
       bind-same (inside s (place p n)) _ _ (λ w _. step-present w e)
       ∙ inside-field s (place p n) (m .column) (λ (w : Place) (f : Field). ok (past w f)) ∙ field-stop free (m .column) gap (m .bit) s p n
@@ -209,7 +199,7 @@ module _ (has : Mark → Bool) (s : Bytes) (m : Mark) (p n : ℕ) where
       go : (t : Bool) → has m ≡ t → one t * width (m .column) ≡ width (m .column) → inside s (place p n) >>= step has s m ≡ inside s (place (p + width (m .column)) n)
       go true e w =
           let z : n + 0 ≡ n = omega arith in
-          step-there true 0 e ∙ rw (error-fixed true (m .column) 0 (m .bit) s p v, span-fixed true (m .column) 0 (m .bit) s p v, v, z) refl
+          step-there true 0 e ∙ rw (error-fixed true (m .column) 0 (m .bit) s p v, span-fixed true (m .column) 0 (m .bit) s p v, own-variable true (m .column) 0 (m .bit), v, z) refl
       go false e w =
           let z : p ≡ p + width (m .column) = omega arith in
           step-none e ∙ ap (λ (x : ℕ). inside s (place x n)) z
@@ -424,44 +414,29 @@ count-few : (test : Mark → Bool) (ms : List Mark) → count test ms ≤ length
 unfolding count
 count-few test [] = omega arith
 count-few test (m ∷ ms) = omega (arith, one-most (test m), count-few test ms)
-  where
-    one-most : (b : Bool) → one b ≤ 1
-    one-most true = omega arith
-    one-most false = omega arith
 
 -- of the first k columns no more than k are stops
 pub stops-below : (stop : Column → Bool) (k : ℕ) (ms : List Mark) → stopCount stop (take k ms) ≤ k
 stops-below stop k ms = omega (arith, count-few (λ (m : Mark). stop (m .column)) (take k ms), length-take k ms)
 
+pick-both : {A B C : Type 0} (g : A → B → C) (t : Bool) (x y : A) (a b : B) → pick t (g x a) (g y b) ≡ g (pick t x y) (pick t a b)
+pick-both g true x y a b = refl
+pick-both g false x y a b = refl
+
 pub tail-append : (stop : Column → Bool) (gap : ℕ) (ms ns : List Mark) → tailFrom stop gap (ms ++ ns) ≡ tailFrom stop (tailFrom stop gap ms) ns
 unfolding tailFrom
 tail-append stop gap [] ns = refl
-tail-append stop gap (m ∷ ms) ns = go (stop (m .column)) (λ g. tail-append stop g ms ns)
-  where
-    go :
-        (t : Bool) → ((g : ℕ) → tailFrom stop g (ms ++ ns) ≡ tailFrom stop (tailFrom stop g ms) ns) →
-        pick t (tailFrom stop 0 (ms ++ ns)) (tailFrom stop (gap + width (m .column)) (ms ++ ns))
-        ≡ tailFrom stop (pick t (tailFrom stop 0 ms) (tailFrom stop (gap + width (m .column)) ms)) ns
-    go true r = r 0
-    go false r = r (gap + width (m .column))
+tail-append stop gap (m ∷ ms) ns =
+    rw (tail-append stop 0 ms ns, tail-append stop (gap + width (m .column)) ms ns) (pick-both (λ (k _ : ℕ). tailFrom stop k ns) (stop (m .column)) _ _ 0 0)
 
 module _ (free stop : Column → Bool) where
   pub stops-append :
       (gap : ℕ) (ms ns : List Mark) → stopsFrom free stop gap (ms ++ ns) ≡ stopsFrom free stop gap ms ++ stopsFrom free stop (tailFrom stop gap ms) ns
   unfolding stopsFrom tailFrom
   stops-append gap [] ns = refl
-  stops-append gap (m ∷ ms) ns = go (stop (m .column)) (λ g. stops-append g ms ns)
-    where
-      first : Stop
-      first = stopOf (free (m .column)) (m .column) gap (m .bit)
-
-      go :
-          (t : Bool) → ((g : ℕ) → stopsFrom free stop g (ms ++ ns) ≡ stopsFrom free stop g ms ++ stopsFrom free stop (tailFrom stop g ms) ns) →
-          pick t (first ∷ stopsFrom free stop 0 (ms ++ ns)) (stopsFrom free stop (gap + width (m .column)) (ms ++ ns))
-          ≡ pick t (first ∷ stopsFrom free stop 0 ms) (stopsFrom free stop (gap + width (m .column)) ms)
-          ++ stopsFrom free stop (pick t (tailFrom stop 0 ms) (tailFrom stop (gap + width (m .column)) ms)) ns
-      go true r = ap (λ (l : List Stop). first ∷ l) (r 0)
-      go false r = r (gap + width (m .column))
+  stops-append gap (m ∷ ms) ns =
+      rw (stops-append 0 ms ns, stops-append (gap + width (m .column)) ms ns)
+      (pick-both (λ (l : List Stop) (k : ℕ). l ++ stopsFrom free stop k ns) (stop (m .column)) (_ ∷ _) _ _ _)
 
   pub stops-length : (gap : ℕ) (ms : List Mark) → length (stopsFrom free stop gap ms) ≡ stopCount stop ms
   unfolding stopsFrom count
