@@ -223,32 +223,27 @@ module _ (on : ℕ → Bool) (s : Bytes) (t : Stop) (w : Place) where
     unfolding passed
     passed-bad z = rw (e, ne-eqb _ 0 z) refl
 
+pub there-stop : (on : ℕ → Bool) (free : Bool) (c : Column) (gap bit : ℕ) → there on (stopOf free c gap bit) ≡ pick free (on bit) true
+unfolding stopOf
+there-stop on true c gap bit = refl
+there-stop on false c gap bit = refl
+
 -- a stop is passed as its column is
 stop-step :
     (on : ℕ → Bool) (has : Mark → Bool) (s : Bytes) (m : Mark) (free : Bool) (gap p n : ℕ) → pick free (on (m .bit)) true ≡ has m →
     passed on s (stopOf free (m .column) gap (m .bit)) (place p n) >>= inside s ≡ inside s (place (p + gap) n) >>= step has s m
 unfolding stopOf
-stop-step on has s m free gap p n h = go free h (has m) refl
+stop-step on has s m free gap p n h =
+    go (has m) (eqb (spanError (own free (m .column) gap (m .bit)) s (p + gap)) 0) (there-stop on free (m .column) gap (m .bit) ∙ h) refl refl
   where
-    by :
-        (f : Bool) → there on (stopOf f (m .column) gap (m .bit)) ≡ true → has m ≡ true →
-        (u : Bool) → eqb (spanError (stopOf f (m .column) gap (m .bit)) s (p + gap)) 0 ≡ u →
-        passed on s (stopOf f (m .column) gap (m .bit)) (place p n) >>= inside s ≡ inside s (place (p + gap) n) >>= step has s m
-    by f x e true u =
-        bind-of (inside s) (passed-over on s (stopOf f (m .column) gap (m .bit)) (place p n) x (eqb-true _ _ u))
-        ∙ sym (step-there has s m (p + gap) n f gap e ∙ rw u refl)
-    by f x e false u =
-        bind-bad (inside s) (passed-bad on s (stopOf f (m .column) gap (m .bit)) (place p n) x (eqb-false _ _ u))
-        ∙ sym (step-there has s m (p + gap) n f gap e ∙ rw u refl)
-
     go :
-        (f : Bool) → pick f (on (m .bit)) true ≡ has m → (t : Bool) → has m ≡ t →
-        passed on s (stopOf f (m .column) gap (m .bit)) (place p n) >>= inside s ≡ inside s (place (p + gap) n) >>= step has s m
-    go true x true e = by true (x ∙ e) e _ refl
-    go false x true e = by false refl e _ refl
-    go true x false e =
-        bind-of (inside s) (passed-none on s (stopOf true (m .column) gap (m .bit)) (place p n) (x ∙ e)) ∙ sym (step-none has s m (p + gap) n e)
-    go false x false e = absurd (true≢false (x ∙ e))
+        (t u : Bool) → there on (own free (m .column) gap (m .bit)) ≡ has m → has m ≡ t → eqb (spanError (own free (m .column) gap (m .bit)) s (p + gap)) 0 ≡ u →
+        passed on s (own free (m .column) gap (m .bit)) (place p n) >>= inside s ≡ inside s (place (p + gap) n) >>= step has s m
+    go false u x e _ = bind-of (inside s) (passed-none on s _ (place p n) (x ∙ e)) ∙ sym (step-none has s m (p + gap) n e)
+    go true true x e u =
+        bind-of (inside s) (passed-over on s _ (place p n) (x ∙ e) (eqb-true _ _ u)) ∙ sym (step-there has s m (p + gap) n free gap e ∙ rw u refl)
+    go true false x e u =
+        bind-bad (inside s) (passed-bad on s _ (place p n) (x ∙ e) (eqb-false _ _ u)) ∙ sym (step-there has s m (p + gap) n free gap e ∙ rw u refl)
 
 -- one stop, then the others
 leap-next :

@@ -59,6 +59,8 @@ leap on s ts tail w = do
   v ← leaps on s ts w
   inside s (place (v .at + tail) (v .prefixes))
 
+-- Inner.
+
 -- update 1 and force 0 in column b of the update data at `at`
 unfoldable pub carriedBit : List Column → Bytes → (at : ℕ) → (b : ℕ) → Bool
 carriedBit cs s at b = pick (bitSet (drop at s) b) (not (bitSet (drop (at + updateBytes cs) s) b)) false
