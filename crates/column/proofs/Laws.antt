@@ -4,7 +4,7 @@ use Prim.Native.Nat.{ℕ, zero, suc, _+_, _*_, _-_, _%_, _≤_, _<_}
 use mathlib.Core.List.{List, [], _∷_}
 use mathlib.Core.Bool.{Bool, true, false, true≢false}
 use mathlib.Core.Path.{_≡_, refl, sym, ap, _∙_}
-use mathlib.Core.Logic.{_⊎_, inl, inr}
+use mathlib.Core.Logic.{_⊎_, inl, inr, ⊎-elim}
 use native.Mathlib.Omega.{arith, by-contra, not-le}
 use lib.ListN.{length, take}
 use lib.Seq.{take-take}
@@ -23,7 +23,7 @@ use Rattle.column.specs.declared.column.Column.{Column}
 use Rattle.column.specs.declared.field.Field.{Field}
 use Rattle.column.specs.declared.types.Kind.{Kind}
 use Rattle.column.specs.declared.types.Kind.the-variants.{Fixed, Variable, Wide, Chapter, Unknown}
-use Rattle.column.specs.Types.{chapterCode, Entry, types, kindIn, kindOf, variableKind, chapterKind}
+use Rattle.column.specs.Types.{chapterCode, Entry, types, kindIn, kindOf, variableKind, wideKind, chapterKind}
 use Rattle.column.specs.Columns.{kind, width, isVariable, isWide, isChapter, prefixSize, prefixBytes, greatest, lengthErrorOf, lengthError}
 use Rattle.column.specs.Fields.{field, allowed, bytesAt, variableAt, fieldAt}
 
@@ -103,6 +103,15 @@ module _ (c : Column) where
       go true e = rw (eqb-true (c .code) chapterCode e) refl
       go false e = sym (apart-not chapterKind types (c .code) refl (rw e refl))
 
+  -- wide text by its code
+  pub wide-told : eqb (c .code) 0x82 ≡ isWide c
+  unfolding kindOf kindIn types apart
+  wide-told = go (eqb (c .code) 0x82) refl
+    where
+      go : (t : Bool) → eqb (c .code) 0x82 ≡ t → t ≡ isWide c
+      go true e = rw (eqb-true (c .code) 0x82 e) refl
+      go false e = sym (apart-not wideKind types (c .code) refl (rw e refl))
+
   -- a type of variable length by its code
   pub bytes-code : c .code ≡ 0x80 → isVariable c ≡ true
   unfolding kindOf kindIn types
@@ -140,21 +149,6 @@ module _ (c : Column) where
   unfolding prefixBytes
   prefix-plain v = rw v
 
-  -- the kind of a type of variable length, by its code
-  kind-wide : c .code ≡ 0x82 → kind c ≡ Wide
-  unfolding kindOf kindIn types
-  kind-wide e = rw e refl
-
-  kind-plain : (c .code ≡ 0x82 → ⊥) → isVariable c ≡ true → kind c ≡ Variable
-  unfolding kindOf kindIn types
-  kind-plain w v = go (eqb (c .code) 0x80) (eqb (c .code) 0x81) refl refl
-    where
-      go : (t u : Bool) → eqb (c .code) 0x80 ≡ t → eqb (c .code) 0x81 ≡ u → kind c ≡ Variable
-      go true u a b = rw (eqb-true (c .code) 0x80 a) refl
-      go false true a b = rw (eqb-true (c .code) 0x81 b) refl
-      go false false a b =
-          absurd (true≢false (sym v ∙ sym (wide-code (eqb-false (c .code) 0x80 a) (eqb-false (c .code) 0x81 b)) ∙ ne-eqb (c .code) 0x82 w))
-
   -- the greatest length and whether it must be even, by the kind
   pub wide-kind : kind c ≡ Wide → (greatest c ≡ 2 * c .maximum) × (isWide c ≡ true)
   unfolding greatest
@@ -163,6 +157,14 @@ module _ (c : Column) where
   pub plain-kind : kind c ≡ Variable → (greatest c ≡ c .maximum) × (isWide c ≡ false)
   unfolding greatest
   plain-kind e = (rw e refl, rw e refl)
+
+  pub greatest-wide : isWide c ≡ true → greatest c ≡ 2 * c .maximum
+  unfolding greatest
+  greatest-wide w = rw w
+
+  pub greatest-plain : isWide c ≡ false → greatest c ≡ c .maximum
+  unfolding greatest
+  greatest-plain w = rw w
 
   -- the error of a length
   module _ (n : ℕ) where
@@ -175,6 +177,9 @@ module _ (c : Column) where
     unfolding lengthError
     length-rule v = rw v
 
+    pub length-ruled : {most k : ℕ} {even : Bool} → isVariable c ≡ true → most ≡ greatest c → even ≡ isWide c → k ≡ lengthErrorOf most even n → k ≡ lengthError c n
+    length-ruled v g w e = e ∙ rw (g, w) (sym (length-rule v))
+
     -- by the kind
     pub length-plain : kind c ≡ Variable → lengthError c n ≡ pick (leb n (c .maximum)) 0 14
     unfolding lengthErrorOf
@@ -183,28 +188,6 @@ module _ (c : Column) where
     pub length-wide : kind c ≡ Wide → lengthError c n ≡ pick (leb n (2 * c .maximum)) (pick (eqb (n % 2) 0) 0 14) 14
     unfolding lengthErrorOf
     length-wide e = let (g, w) = wide-kind e in length-rule (rw e refl) ∙ rw (g, w) refl
-
-    module _ (w : c .code ≡ 0x82 → ⊥) where
-      pub length-over : isVariable c ≡ true → c .maximum < n → 14 ≡ lengthError c n
-      length-over v h = sym (length-plain (kind-plain w v) ∙ rw (lt-leb n (c .maximum) h))
-
-      pub length-within : n ≤ c .maximum → 0 ≡ lengthError c n
-      length-within h = go (isVariable c) refl
-        where
-          go : (t : Bool) → isVariable c ≡ t → 0 ≡ lengthError c n
-          go true v = sym (length-plain (kind-plain w v) ∙ rw (le-leb n (c .maximum) h))
-          go false v = length-free v
-
-    module _ (e : c .code ≡ 0x82) where
-      pub wide-over : 2 * c .maximum < n → 14 ≡ lengthError c n
-      wide-over h = sym (length-wide (kind-wide e) ∙ rw (lt-leb n (2 * c .maximum) h))
-
-      module _ (h : n ≤ 2 * c .maximum) where
-        pub wide-odd : (n % 2 ≡ 0 → ⊥) → 14 ≡ lengthError c n
-        wide-odd o = sym (length-wide (kind-wide e) ∙ rw (le-leb n (2 * c .maximum) h, ne-eqb _ _ o))
-
-        pub wide-within : n % 2 ≡ 0 → 0 ≡ lengthError c n
-        wide-within o = sym (length-wide (kind-wide e) ∙ rw (le-leb n (2 * c .maximum) h, o))
 
 -- what the error of a length is, by its number: none, or 14
 pub length-rule-either : (most : ℕ) (even : Bool) (n : ℕ) → (lengthErrorOf most even n ≡ 0) ⊎ (lengthErrorOf most even n ≡ 14)
@@ -216,6 +199,33 @@ length-rule-either most even n = go (leb n most) even (eqb (n % 2) 0)
     go true true false = inr refl
     go true false u = inl refl
     go false e u = inr refl
+
+-- The rule by its tests.
+
+module _ (most : ℕ) (even : Bool) (n : ℕ) where
+  pub rule-over : most < n → lengthErrorOf most even n ≡ 14
+  unfolding lengthErrorOf
+  rule-over h = rw (lt-leb n most h)
+
+  pub rule-even : n ≤ most → even ≡ true → eqb (lengthErrorOf most even n) 0 ≡ eqb (n % 2) 0
+  unfolding lengthErrorOf
+  rule-even h e = rw (le-leb n most h, e) (go (eqb (n % 2) 0))
+    where
+      go : (t : Bool) → eqb (pick t 0 14) 0 ≡ t
+      go true = refl
+      go false = refl
+
+  pub rule-any : n ≤ most → even ≡ false → lengthErrorOf most even n ≡ 0
+  unfolding lengthErrorOf
+  rule-any h e = rw (le-leb n most h, e)
+
+  -- what is allowed is no longer than the greatest length
+  pub rule-most : lengthErrorOf most even n ≡ 0 → n ≤ most
+  rule-most h = by-contra _ _ (λ l. omega (arith, rule-over l))
+
+  -- what is not allowed is refused with 14
+  pub rule-refused : eqb (lengthErrorOf most even n) 0 ≡ false → lengthErrorOf most even n ≡ 14
+  rule-refused h = ⊎-elim (λ e. absurd (eqb-false _ _ h e)) (λ e. e) (length-rule-either most even n)
 
 pub length-either : (c : Column) (n : ℕ) → (lengthError c n ≡ 0) ⊎ (lengthError c n ≡ 14)
 length-either c n = go (isVariable c) refl

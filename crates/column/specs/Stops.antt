@@ -83,6 +83,11 @@ spanError t s p = pick (t .variable) (lengthErrorOf (t .most) (t .even) (lengthA
 
 -- Inner.
 
+-- the flags of a column's stop, in their places
+unfoldable pub stopFlags : (free : Bool) → Column → ℕ
+stopFlags free c =
+    4194304 * flag (isVariable c) + 8388608 * flag (eqb (prefixSize c) 4) + 16777216 * flag (isWide c) + 33554432 * flag free
+
 -- the parts of a stop have room in its number
 pub record Fits (t : Stop) : Type 0 where
   pub gap : t .gap < 65536

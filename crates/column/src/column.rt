@@ -1,6 +1,8 @@
 // A column of a schema: its type, its flags and its maximum length; and what these decide of its fields.
 ghost use mathlib.Core.Path.{_≡_};
-ghost use Rattle.column.specs.Columns.{isVariable, isChapter, isNullable, isStop, width, prefixSize, prefixBytes, lengthError, toldLength};
+ghost use Prim.Native.Nat.{_<_};
+ghost use lib.Dec.{eqb};
+ghost use Rattle.column.specs.Columns.{isVariable, isWide, isChapter, isNullable, isStop, width, prefixSize, prefixBytes, greatest, lengthErrorOf, lengthError, toldLength};
 use crate::types::ColumnType;
 use wire::error::ErrorKind;
 
@@ -17,6 +19,30 @@ pub enum LengthCheck {
     Refused(ErrorKind),
 }
 
+// Whether a length of so many bytes is allowed: it may reach `most`, and where `even` says so it must be even.
+pub fn allows(most: usize, even: bool, size: usize) -> bool
+    ensures { λ r. ⌜ r ≡ eqb (lengthErrorOf most even size) 0 ⌝ }
+{
+    if most < size {
+        return false;
+    }
+    if even {
+        return size % 2 == 0;
+    }
+    true
+}
+
+// The same as a check, with the error that such a length is.
+pub fn check_length(most: usize, even: bool, size: usize) -> LengthCheck
+    ensures { λ r. ⌜ toldLength r ≡ lengthErrorOf most even size ⌝ }
+{
+    if allows(most, even, size) {
+        LengthCheck::Allowed
+    } else {
+        LengthCheck::Refused(ErrorKind::Length)
+    }
+}
+
 impl Column {
     // Whether the column's fields carry a length.
     pub fn is_variable(self) -> bool
@@ -28,6 +54,13 @@ impl Column {
         if self.code == ColumnType::STR {
             return true;
         }
+        self.code == ColumnType::WSTR
+    }
+
+    // Whether its lengths count bytes of wide text.
+    pub fn is_wide(self) -> bool
+        ensures { λ r. ⌜ r ≡ isWide self ⌝ }
+    {
         self.code == ColumnType::WSTR
     }
 
@@ -84,25 +117,22 @@ impl Column {
         }
     }
 
+    // The greatest length in bytes of the column's fields.
+    pub fn greatest(self) -> usize
+        ensures { λ r. ⌜ (r ≡ greatest self) × (r < 131072) ⌝ }
+    {
+        let maximum = self.maximum as usize;
+        if self.is_wide() { 2 * maximum } else { maximum }
+    }
+
     // Whether a field of the column may have a length of so many bytes.
     pub fn length_error(self, size: usize) -> LengthCheck
         ensures { λ r. ⌜ toldLength r ≡ lengthError self size ⌝ }
     {
-        let maximum = self.maximum as usize;
-        if self.code == ColumnType::WSTR {
-            if 2 * maximum < size {
-                return LengthCheck::Refused(ErrorKind::Length);
-            }
-            if size % 2 != 0 {
-                return LengthCheck::Refused(ErrorKind::Length);
-            }
-            return LengthCheck::Allowed;
+        if self.is_variable() {
+            check_length(self.greatest(), self.is_wide(), size)
+        } else {
+            LengthCheck::Allowed
         }
-        if maximum < size {
-            if self.is_variable() {
-                return LengthCheck::Refused(ErrorKind::Length);
-            }
-        }
-        LengthCheck::Allowed
     }
 }
