@@ -4,12 +4,12 @@ use Prim.Native.Nat.{ℕ, zero, suc, _+_, _*_, _-_, _%_, _≤_, _<_}
 use mathlib.Core.List.{List, [], _∷_}
 use mathlib.Core.Bool.{Bool, true, false, true≢false}
 use mathlib.Core.Path.{_≡_, refl, sym, ap, _∙_}
-use mathlib.Core.Logic.{_⊎_, inl, inr, ⊎-elim}
+use mathlib.Core.Logic.{_⊎_, inl, inr, ⊎-elim, _↔_}
 use native.Mathlib.Omega.{arith, by-contra, not-le}
 use lib.ListN.{length, take}
 use lib.Seq.{take-take}
 use lib.Dec.{leb, eqb}
-use borrow.Author.Tests.{lt-ltb, le-ltb, le-leb, lt-leb, ne-eqb, eqb-true, eqb-false}
+use borrow.Author.Tests.{lt-ltb, le-ltb, leb-true, le-leb, lt-leb, ne-eqb, eqb-true, eqb-false}
 use Rattle.wire.specs.declared.error.ErrorKind.{ErrorKind}
 use Rattle.wire.specs.declared.error.ErrorKind.the-variants as error
 use Rattle.wire.specs.declared.error.Input.{Input}
@@ -189,6 +189,23 @@ module _ (c : Column) where
     unfolding lengthErrorOf
     length-wide e = let (g, w) = wide-kind e in length-rule (rw e refl) ∙ rw (g, w) refl
 
+    -- what is allowed, by the kind
+    pub plain-allowed : kind c ≡ Variable → (lengthError c n ≡ 0) ↔ (n ≤ c .maximum)
+    plain-allowed e = (to, λ m. length-plain e ∙ rw (le-leb n (c .maximum) m))
+      where
+        to : lengthError c n ≡ 0 → n ≤ c .maximum
+        to h = by-contra _ _ (λ l. let z : lengthError c n ≡ 14 = length-plain e ∙ rw (lt-leb n (c .maximum) l) in omega arith)
+
+    pub wide-allowed : kind c ≡ Wide → (lengthError c n ≡ 0) ↔ ((n ≤ 2 * c .maximum) × (n % 2 ≡ 0))
+    wide-allowed e = (λ h. go (leb n (2 * c .maximum)) (eqb (n % 2) 0) refl refl (sym (length-wide e) ∙ h), λ m. length-wide e ∙ rw (le-leb n (2 * c .maximum) (m .0), m .1))
+      where
+        go :
+            (t u : Bool) → leb n (2 * c .maximum) ≡ t → eqb (n % 2) 0 ≡ u → _≡_ {A = ℕ} (pick t (pick u 0 14) 14) 0 →
+            (n ≤ 2 * c .maximum) × (n % 2 ≡ 0)
+        go true true t u h = (leb-true _ _ t, eqb-true _ _ u)
+        go true false t u h = absurd (omega arith)
+        go false u t v h = absurd (omega arith)
+
 -- what the error of a length is, by its number: none, or 14
 pub length-rule-either : (most : ℕ) (even : Bool) (n : ℕ) → (lengthErrorOf most even n ≡ 0) ⊎ (lengthErrorOf most even n ≡ 14)
 unfolding lengthErrorOf
@@ -239,6 +256,9 @@ length-either c n = go (isVariable c) refl
         by (inl e) = inl (length-rule c n v ∙ e)
         by (inr e) = inr (length-rule c n v ∙ e)
     go false v = inl (sym (length-free c n v))
+
+pub length-refused : (c : Column) (n : ℕ) → (lengthError c n ≡ 0 → ⊥) → lengthError c n ≡ 14
+length-refused c n h = ⊎-elim (λ e. absurd (h e)) (λ e. e) (length-either c n)
 
 -- A field of so many bytes.
 
