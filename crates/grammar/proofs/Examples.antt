@@ -8,7 +8,7 @@ use Rattle.wire.specs.Read.{Bytes, Read, ok, bad, _>>=_, check, sizedBy, sized,
 use Rattle.wire.specs.Integers.{valueOf, intAt, readInt}
 use Rattle.wire.specs.Bits.{bitAt, bitSet, mapBytes}
 use Rattle.column.specs.Types.{types, kindIn, kindOf}
-use Rattle.column.specs.Columns.{isNullable, prefixSize, lengthError}
+use Rattle.column.specs.Columns.{isNullable, prefixSize, greatest, lengthErrorOf, lengthError}
 use Rattle.column.specs.Fields.{allowed, bytesAt, variableAt, fieldAt}
 use Rattle.schema.specs.Numbers.{thirdGroup, secondGroup, numberIn}
 use Rattle.schema.specs.Tree.{member}
@@ -119,7 +119,7 @@ abbrev pub answerTo : Example → Read (List Row)
 answerTo e = readSchemas (e .file) >>= (λ S. section S (e .input))
 
 pub examples-hold : map answerTo (starred ++ cases) ≡ map (λ (e : Example). e .answer) (starred ++ cases)
-unfolding check sizedBy sized whole valueOf intAt readInt bitAt bitSet mapBytes types kindIn kindOf isNullable prefixSize lengthError allowed bytesAt variableAt fieldAt thirdGroup secondGroup numberIn member readNumber readRange readFixed readVariable readChapter readKind readColumn readColumns readSchema ended readFile fileOf ownColumns nestedSchemas schemasOf readSchemas columnsOf numberFrom childNumber nullables presenceBytes marks present chapterPresent clear step walk opened walked rowEnd numbered updateBytes chapterMarked forceBroken carried carriedIn updateOpened updateWalked updateEnd childKind updateStart rows tokenOf knownChild element scan elements section
+unfolding check sizedBy sized whole valueOf intAt readInt bitAt bitSet mapBytes types kindIn kindOf isNullable prefixSize greatest lengthErrorOf lengthError allowed bytesAt variableAt fieldAt thirdGroup secondGroup numberIn member readNumber readRange readFixed readVariable readChapter readKind readColumn readColumns readSchema ended readFile fileOf ownColumns nestedSchemas schemasOf readSchemas columnsOf numberFrom childNumber nullables presenceBytes marks present chapterPresent clear step walk opened walked rowEnd numbered updateBytes chapterMarked forceBroken carried carriedIn updateOpened updateWalked updateEnd childKind updateStart rows tokenOf knownChild element scan elements section
 examples-hold = refl
 
 -- The theorems are not empty: T's section has a split.
@@ -132,7 +132,7 @@ T-elements =
     parentElement (0x05 ∷ 0x00 ∷ 0x00 ∷ 0x00 ∷ []) ∷ childElement 7 (0x2A ∷ []) ∷ changeElement 7 (0x80 ∷ 0x00 ∷ 0x2B ∷ []) ∷ []
 
 T-accepted : elements T-schemas T-section ≡ ok T-elements
-unfolding check whole valueOf intAt readInt bitAt bitSet mapBytes types kindIn kindOf isNullable prefixSize lengthError allowed bytesAt variableAt fieldAt columnsOf numberFrom childNumber nullables presenceBytes marks present chapterPresent clear step walk opened walked rowEnd numbered updateBytes chapterMarked forceBroken carried carriedIn updateOpened updateWalked updateEnd tokenOf knownChild element scan elements
+unfolding check whole valueOf intAt readInt bitAt bitSet mapBytes types kindIn kindOf isNullable prefixSize greatest lengthErrorOf lengthError allowed bytesAt variableAt fieldAt columnsOf numberFrom childNumber nullables presenceBytes marks present chapterPresent clear step walk opened walked rowEnd numbered updateBytes chapterMarked forceBroken carried carriedIn updateOpened updateWalked updateEnd tokenOf knownChild element scan elements
 T-accepted = refl
 
 pub T-splits : Split T-schemas other T-section T-elements

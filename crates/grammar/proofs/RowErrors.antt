@@ -3,6 +3,7 @@
 use Prim.Native.Nat.{ℕ, zero, suc, _+_, _*_, _/_, _%_, _<_, _≤_}
 use mathlib.Core.Path.{_≡_, refl, sym, ap, _∙_}
 use mathlib.Core.List.{List, [], _∷_}
+use mathlib.Core.Logic.{_⊎_, inl, inr}
 use mathlib.Core.Bool.{Bool, true, false, not, true≢false}
 use native.Mathlib.Omega.{arith}
 use lib.ListN.{length, drop}
@@ -14,10 +15,9 @@ use Rattle.wire.specs.Bits.{mapBytes}
 use Rattle.wire.specs.Integers.{readInt}
 use Rattle.wire.proofs.Pieces.{whole-ok}
 use Rattle.column.specs.declared.column.Column.{Column}
-use Rattle.column.specs.declared.types.Kind.{Kind}
-use Rattle.column.specs.declared.types.Kind.the-variants.{Fixed, Variable, Wide, Chapter, Unknown}
-use Rattle.column.specs.Columns.{kind, width, isVariable, isNullable, prefixSize, lengthErrorOf, lengthError}
+use Rattle.column.specs.Columns.{width, isVariable, isNullable, prefixSize, lengthError}
 use Rattle.column.specs.Fields.{allowed, bytesAt, variableAt, fieldAt}
+use Rattle.column.proofs.Laws.{length-either}
 use Rattle.row.specs.Presence.{one, nullables, presenceBytes, Mark, mark, marks, present, chapterPresent, clear}
 use Rattle.row.specs.Rows.{Place, past, step, walk, opened, walked, rowEnd}
 use Rattle.row.specs.Updates.{updateBytes, numbered, chapterMarked, forceBroken, carriedIn, updateOpened, updateWalked, updateEnd}
@@ -72,22 +72,13 @@ module _ (s : Bytes) where
 
   -- One field.
 
-  of-allowed : (k : Kind) (maximum n at : ℕ) → at < length s → OfError (RowErrorAt (length s)) (allowed (lengthErrorOf k maximum n) at)
+  of-allowed : (c : Column) (n at : ℕ) → at < length s → OfError (RowErrorAt (length s)) (allowed (lengthError c n) at)
   unfolding allowed
-  of-allowed (Fixed w) maximum n at h = no-error
-  of-allowed Variable maximum n at h = go (leb n maximum)
+  of-allowed c n at h = go (length-either c n)
     where
-      go : (t : Bool) → OfError (RowErrorAt (length s)) (allowed (pick t 0 14) at)
-      go true = no-error
-      go false = an-error (length-rule h)
-  of-allowed Wide maximum n at h = go (leb n (2 * maximum)) (eqb (n % 2) 0)
-    where
-      go : (t u : Bool) → OfError (RowErrorAt (length s)) (allowed (pick t (pick u 0 14) 14) at)
-      go true true = no-error
-      go true false = an-error (length-rule h)
-      go false u = an-error (length-rule h)
-  of-allowed Chapter maximum n at h = no-error
-  of-allowed Unknown maximum n at h = no-error
+      go : (lengthError c n ≡ 0) ⊎ (lengthError c n ≡ 14) → OfError (RowErrorAt (length s)) (allowed (lengthError c n) at)
+      go (inl e) = rw e no-error
+      go (inr e) = rw e (an-error (length-rule h))
 
   pub of-bytes : (at w n : ℕ) → OfError (RowErrorAt (length s)) (bytesAt s at w n)
   unfolding bytesAt
@@ -98,13 +89,13 @@ module _ (s : Bytes) where
   of-int at n = of-bind _ _ (of-whole at n) (λ _ _. no-error)
 
   pub of-variable : (c : Column) (at : ℕ) → OfError (RowErrorAt (length s)) (variableAt c s at)
-  unfolding variableAt lengthError
+  unfolding variableAt
   of-variable c at =
       of-bind _ _ (of-whole at (prefixSize c))
       (λ b w.
       let (p, l) = whole-ok s at (prefixSize c) b w in
       let h : at < length s = omega (arith, p .ends, p .inside, prefix-positive c) in
-      of-bind _ _ (of-int at (prefixSize c)) (λ n _. of-bind _ _ (of-allowed (kind c) (c .maximum) n at h) (λ _ _. of-bytes b n 1)))
+      of-bind _ _ (of-int at (prefixSize c)) (λ n _. of-bind _ _ (of-allowed c n at h) (λ _ _. of-bytes b n 1)))
 
   pub of-field : (c : Column) (at : ℕ) → OfError (RowErrorAt (length s)) (fieldAt c s at)
   unfolding fieldAt

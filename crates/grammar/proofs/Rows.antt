@@ -15,9 +15,9 @@ use Rattle.column.specs.declared.column.Column.{Column}
 use Rattle.column.specs.declared.field.Field.{Field as Found}
 use Rattle.column.specs.declared.types.Kind.{Kind}
 use Rattle.column.specs.declared.types.Kind.the-variants.{Fixed, Variable, Wide, Chapter, Unknown}
-use Rattle.column.specs.Columns.{kind, width, isVariable, prefixSize, prefixBytes, lengthErrorOf, lengthError}
+use Rattle.column.specs.Columns.{kind, width, isVariable, prefixSize, prefixBytes, lengthError}
 use Rattle.column.specs.Fields.{field, fieldAt}
-use Rattle.column.proofs.Laws.{Told, prefix-variable, prefix-plain, length-told, field-told, field-made}
+use Rattle.column.proofs.Laws.{Told, prefix-variable, prefix-plain, plain-allowed, wide-allowed, field-told, field-made}
 use Rattle.row.specs.Presence.{presenceBytes, Mark, marks, present}
 use Rattle.row.specs.Rows.{Place, place, past, step, walk, walked, rowEnd}
 use Rattle.row.specs.Updates.{updateBytes, numbered, carried, carriedIn, updateWalked, updateEnd}
@@ -34,15 +34,6 @@ abbrev pub Has : (Bytes → Type 0) → Bytes → ℕ → ℕ → Type 0
 Has F s a b = (x : Bytes) × F x × Piece s a b x
 
 -- One field.
-
-within : (n maximum : ℕ) (t : Bool) → leb n maximum ≡ t → _≡_ {A = ℕ} (pick t 0 14) 0 → n ≤ maximum
-within n maximum true e f = leb-true _ _ e
-within n maximum false e f = absurd (omega arith)
-
-within-wide : (n maximum : ℕ) (t u : Bool) → leb n (2 * maximum) ≡ t → eqb (n % 2) 0 ≡ u → _≡_ {A = ℕ} (pick t (pick u 0 14) 14) 0 → (n ≤ 2 * maximum) × (n % 2 ≡ 0)
-within-wide n maximum true true e g f = (leb-true _ _ e, eqb-true _ _ g)
-within-wide n maximum true false e g f = absurd (omega arith)
-within-wide n maximum false u e g f = absurd (omega arith)
 
 module _ (c : Column) (s : Bytes) (at : ℕ) (f : Found) (t : Told c s at f) where
   plain-sound : isVariable c ≡ false → Has (Field c) s at (f .end)
@@ -79,18 +70,15 @@ module _ (c : Column) (s : Bytes) (at : ℕ) (f : Found) (t : Told c s at f) whe
         join (piece-to (sym starts-behind) (piece s at (prefixSize c) prefix-there)) (piece-to e (piece s (f .start) said body-there))
 
   sound-by : (k : Kind) → kind c ≡ k → Has (Field c) s at (f .end)
-  unfolding lengthError
   sound-by (Fixed w) q = plain-sound (rw q)
   sound-by Variable q =
       let v : isVariable c ≡ true = rw q in
-      let a : lengthErrorOf Variable (c .maximum) (said v) ≡ 0 = rw q at (t .length-allowed v) in
-      let m : said v ≤ c .maximum = within (said v) (c .maximum) _ refl a in
+      let m : said v ≤ c .maximum = plain-allowed c (said v) q .0 (t .length-allowed v) in
       let m′ : length (cut s (f .start) (said v)) ≤ c .maximum = rw (cut-length s (f .start) (said v) (body-there v)) m in
       (_, variable-field q (length-there v) m′, both v)
   sound-by Wide q =
       let v : isVariable c ≡ true = rw q in
-      let a : lengthErrorOf Wide (c .maximum) (said v) ≡ 0 = rw q at (t .length-allowed v) in
-      let (m, d) = within-wide (said v) (c .maximum) _ _ refl refl a in
+      let (m, d) = wide-allowed c (said v) q .0 (t .length-allowed v) in
       let m′ : length (cut s (f .start) (said v)) ≤ 2 * c .maximum = rw (cut-length s (f .start) (said v) (body-there v)) m in
       let d′ : length (cut s (f .start) (said v)) % 2 ≡ 0 = rw (cut-length s (f .start) (said v) (body-there v)) d in
       (_, wide-field q (length-there v) m′ d′, both v)
@@ -105,7 +93,7 @@ abbrev pub foundAt : Column → ℕ → ℕ → Found
 foundAt c at e = field (at + prefixBytes c) e (pick (isVariable c) 1 0)
 
 prefixed-complete :
-    {c : Column} {s : Bytes} {at e : ℕ} (prefix body : Bytes) → isVariable c ≡ true → LengthOf c body prefix → 0 ≡ lengthError c (length body) →
+    {c : Column} {s : Bytes} {at e : ℕ} (prefix body : Bytes) → isVariable c ≡ true → LengthOf c body prefix → lengthError c (length body) ≡ 0 →
     Piece s at e (prefix ++ body) → fieldAt c s at ≡ ok (foundAt c at e)
 unfolding intAt
 prefixed-complete {c} {s} {at} {e} prefix body v n a p =
@@ -118,7 +106,7 @@ prefixed-complete {c} {s} {at} {e} prefix body v n a p =
       forward = omega (arith, r .ends, prefix-variable c v, n .size);
       ends = p .inside;
       counts = refl;
-      length-allowed = λ _. ap (lengthError c) z ∙ sym a;
+      length-allowed = λ _. ap (lengthError c) z ∙ a;
       length-said = λ _. ap valueOf (cut-is (prefixSize c) q (n .size)) ∙ n .says ∙ sym z;
       fixed = λ w. absurd (true≢false (sym v ∙ w));
     })
@@ -136,9 +124,9 @@ field-complete {c} {x} {s} {at} {e} (fixed-field v l) p =
       fixed = λ _. omega (arith, p .ends, prefix-plain c v);
     })
 field-complete {c} (variable-field {prefix = f} {body = b} q n m) p =
-    prefixed-complete f b (rw q) n (length-told c (length b) q (rw (le-leb (length b) (c .maximum) m))) p
+    prefixed-complete f b (rw q) n (plain-allowed c (length b) q .1 m) p
 field-complete {c} (wide-field {prefix = f} {body = b} q n m d) p =
-    prefixed-complete f b (rw q) n (length-told c (length b) q (rw (le-leb (length b) (2 * c .maximum) m, d))) p
+    prefixed-complete f b (rw q) n (wide-allowed c (length b) q .1 (m, d)) p
 
 -- A walk over all marks reads the fields of those that have one.
 
