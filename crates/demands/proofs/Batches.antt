@@ -20,7 +20,7 @@ use Rattle.wire.proofs.Laws.{sized-within}
 use Rattle.wire.proofs.Pieces.{bad-ok, bind-ok, about-ok, ok-ok}
 use Rattle.column.specs.declared.column.Column.{Column}
 use Rattle.column.specs.Types.{types, kindIn, kindOf}
-use Rattle.column.specs.Columns.{isNullable, prefixSize, prefixBytes, lengthError}
+use Rattle.column.specs.Columns.{isNullable, prefixSize, prefixBytes, greatest, lengthErrorOf, lengthError}
 use Rattle.column.specs.Fields.{allowed, bytesAt, variableAt, fieldAt}
 use Rattle.schema.specs.Numbers.{numberLimit, thirdGroup, secondGroup, numberIn}
 use Rattle.schema.specs.Tree.{member}
@@ -293,5 +293,5 @@ pub T-batches :
     × (spansBy (walked T 0 1) sectionT T-rows parents 2 ≡ ok (span chapterMark chapterMark ∷ []))
     × (spansBy (walked T 0 2) sectionT T-rows parents 2 ≡ bad 18 0 input.Column)
     × (spansBy (walked T 0 0) sectionT T-rows parents 1 ≡ bad 16 1 input.Output)
-unfolding sized sizedBy check whole types kindIn kindOf thirdGroup secondGroup numberIn member readNumber readRange readFixed readVariable readChapter readKind readColumn readColumns readSchema ended readFile fileOf ownColumns nestedSchemas schemasOf readSchemas schemaAt withSchema about bitAt bitSet mapBytes valueOf intAt readInt isNullable prefixSize lengthError allowed bytesAt variableAt fieldAt nullables presenceBytes marks bitOf present chapterPresent clear step walk arrive opened row.walked fieldOf columnOf known lookUp lookUpIn columnsOf rowsFrom ownerOf spanOf moved spanIn spansIn spansBy
+unfolding sized sizedBy check whole types kindIn kindOf thirdGroup secondGroup numberIn member readNumber readRange readFixed readVariable readChapter readKind readColumn readColumns readSchema ended readFile fileOf ownColumns nestedSchemas schemasOf readSchemas schemaAt withSchema about bitAt bitSet mapBytes valueOf intAt readInt isNullable prefixSize greatest lengthErrorOf lengthError allowed bytesAt variableAt fieldAt nullables presenceBytes marks bitOf present chapterPresent clear step walk arrive opened row.walked fieldOf columnOf known lookUp lookUpIn columnsOf rowsFrom ownerOf spanOf moved spanIn spansIn spansBy
 T-batches = (refl, refl, refl, refl, refl)

@@ -6,7 +6,7 @@ use Rattle.wire.specs.Read.{check, about, sizedBy, sized, whole, byteAt, consta
 use Rattle.wire.specs.Bits.{bitAt, bitSet, mapBytes}
 use Rattle.wire.specs.Integers.{valueOf, intAt, readInt}
 use Rattle.column.specs.Types.{types, kindIn, kindOf}
-use Rattle.column.specs.Columns.{isNullable, prefixSize, lengthError}
+use Rattle.column.specs.Columns.{isNullable, prefixSize, greatest, lengthErrorOf, lengthError}
 use Rattle.column.specs.Fields.{allowed, bytesAt, variableAt, fieldAt}
 use Rattle.schema.specs.Numbers.{thirdGroup, secondGroup, numberIn}
 use Rattle.schema.specs.Tree.{member}
@@ -24,5 +24,5 @@ use Rattle.adtg.specs.Rows.{lookUpIn}
 use Rattle.demands.specs.Examples.{Example, answerTo, examples}
 
 pub examples-hold : map (λ (e : Example). answerTo (e .call)) examples ≡ map (λ (e : Example). e .said) examples
-unfolding examples headerOf headerFields sized sizedBy check constants byteAt whole types kindIn kindOf thirdGroup secondGroup numberIn member readNumber readRange readFixed readVariable readChapter readKind readColumn readColumns readSchema ended readFile fileOf ownColumns nestedSchemas schemasOf readSchemas schemaAt withSchema about bitAt bitSet mapBytes valueOf intAt readInt isNullable prefixSize lengthError allowed bytesAt variableAt fieldAt nullables presenceBytes marks bitOf present chapterPresent clear step walk arrive opened walked fieldOf columnOf known lookUp lookUpIn columnsOf numberFrom childNumber rowEnd numbered updateBytes chapterMarked forceBroken carried carriedIn updateOpened updateWalked updateEnd childKind updateStart rows tokenOf knownChild element scan elements section rowsFitting rowsRead
+unfolding examples headerOf headerFields sized sizedBy check constants byteAt whole types kindIn kindOf thirdGroup secondGroup numberIn member readNumber readRange readFixed readVariable readChapter readKind readColumn readColumns readSchema ended readFile fileOf ownColumns nestedSchemas schemasOf readSchemas schemaAt withSchema about bitAt bitSet mapBytes valueOf intAt readInt isNullable prefixSize greatest lengthErrorOf lengthError allowed bytesAt variableAt fieldAt nullables presenceBytes marks bitOf present chapterPresent clear step walk arrive opened walked fieldOf columnOf known lookUp lookUpIn columnsOf numberFrom childNumber rowEnd numbered updateBytes chapterMarked forceBroken carried carriedIn updateOpened updateWalked updateEnd childKind updateStart rows tokenOf knownChild element scan elements section rowsFitting rowsRead
 examples-hold = refl

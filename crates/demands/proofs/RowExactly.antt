@@ -9,7 +9,7 @@ use native.Mathlib.Omega.{arith}
 use lib.ListN.{length, getD, take, drop}
 use lib.Seq.{take-all}
 use lib.Dec.{leb, eqb}
-use borrow.Author.Tests.{leb-true, leb-false, lt-leb, eqb-false, not-true, not-false}
+use borrow.Author.Tests.{leb-true, leb-false, eqb-true, eqb-false, not-true, not-false}
 use Rattle.wire.specs.declared.error.Input.{Input}
 use Rattle.wire.specs.declared.error.Input.the-variants as input
 use Rattle.wire.specs.Read.{Bytes, Read, ok, bad, _>>=_, pick, check, about, whole}
@@ -21,9 +21,9 @@ use Rattle.column.specs.declared.column.Column.{Column}
 use Rattle.column.specs.declared.field.Field.{Field}
 use Rattle.column.specs.declared.types.Kind.{Kind}
 use Rattle.column.specs.declared.types.Kind.the-variants.{Fixed, Variable, Wide, Chapter, Unknown}
-use Rattle.column.specs.Columns.{kind, width, isVariable, isChapter, prefixSize, lengthErrorOf, lengthError}
+use Rattle.column.specs.Columns.{kind, width, isVariable, isChapter, prefixSize, lengthError}
 use Rattle.column.specs.Fields.{bytesAt, variableAt, fieldAt}
-use Rattle.column.proofs.Laws.{bytes-short, variable-short, variable-long, variable-bytes, field-variable, field-fixed, length-told}
+use Rattle.column.proofs.Laws.{bytes-short, variable-short, variable-long, variable-bytes, field-variable, field-fixed, length-free, plain-allowed, wide-allowed, length-refused}
 use Rattle.row.specs.Presence.{noColumn, nullables, presenceBytes, Mark, noMark, marks, bitOf, markOf, present, chapterPresent, clear}
 use Rattle.row.specs.Rows.{Place, place, past, reached, step, walk, arrive, opened, walked, rowEnd, field, null, chapter, fieldOf, columnOf, known, lookUp, always, setBits, fieldCount}
 use Rattle.row.specs.Updates.{numbered, updateBytes, chapterMarked, forceBroken, carriedIn, updateOpened, updateWalked, updateEnd, UpdateAnswer, updateColumn, lookUpdate, updated, forced, original, fromRow, currentBy, current}
@@ -41,34 +41,28 @@ use Rattle.demands.proofs.Exactly.{exactly-of, of-exactly, alone, of-fi
 
 module _ (c : Column) (n : ℕ) where
   pub length-fault : LengthFault c n → lengthError c n ≡ 14
-  length-fault (too-long k h) = sym (length-told c n k (rw (lt-leb n (c .maximum) h)))
-  length-fault (too-wide k h) = sym (length-told c n k (rw (lt-leb n (2 * c .maximum) h)))
-  length-fault (odd k h) = sym (length-told c n k (go (leb n (2 * c .maximum))))
-    where
-      go : (t : Bool) → _≡_ {A = ℕ} (pick t (pick (eqb (n % 2) 0) 0 14) 14) 14
-      go true = rw h
-      go false = refl
+  length-fault (too-long k h) = length-refused c n (λ e. omega (arith, plain-allowed c n k .0 e))
+  length-fault (too-wide k h) = length-refused c n (λ e. omega (arith, wide-allowed c n k .0 e .0))
+  length-fault (odd k h) = length-refused c n (λ e. omega (arith, wide-allowed c n k .0 e .1))
 
   pub length-either : (lengthError c n ≡ 0) ⊎ LengthFault c n
-  unfolding lengthError
   length-either = go (kind c) refl
     where
-      variable : kind c ≡ Variable → (t : Bool) → leb n (c .maximum) ≡ t → (_≡_ {A = ℕ} (pick t 0 14) 0) ⊎ LengthFault c n
-      variable k true t = inl refl
+      variable : kind c ≡ Variable → (t : Bool) → leb n (c .maximum) ≡ t → (lengthError c n ≡ 0) ⊎ LengthFault c n
+      variable k true t = inl (plain-allowed c n k .1 (leb-true _ _ t))
       variable k false t = inr (too-long k (leb-false _ _ t))
 
-      wide :
-          kind c ≡ Wide → (t u : Bool) → leb n (2 * c .maximum) ≡ t → eqb (n % 2) 0 ≡ u → (_≡_ {A = ℕ} (pick t (pick u 0 14) 14) 0) ⊎ LengthFault c n
-      wide k true true t u = inl refl
+      wide : kind c ≡ Wide → (t u : Bool) → leb n (2 * c .maximum) ≡ t → eqb (n % 2) 0 ≡ u → (lengthError c n ≡ 0) ⊎ LengthFault c n
+      wide k true true t u = inl (wide-allowed c n k .1 (leb-true _ _ t, eqb-true _ _ u))
       wide k true false t u = let z : n % 2 ≡ 0 → ⊥ = eqb-false _ _ u in inr (odd k (omega arith))
       wide k false u t _ = inr (too-wide k (leb-false _ _ t))
 
-      go : (k : Kind) → kind c ≡ k → (lengthErrorOf k (c .maximum) n ≡ 0) ⊎ LengthFault c n
-      go (Fixed w) k = inl refl
+      go : (k : Kind) → kind c ≡ k → (lengthError c n ≡ 0) ⊎ LengthFault c n
+      go (Fixed w) k = inl (sym (length-free c n (rw k)))
       go Variable k = variable k _ refl
       go Wide k = wide k _ _ refl refl
-      go Chapter k = inl refl
-      go Unknown k = inl refl
+      go Chapter k = inl (sym (length-free c n (rw k)))
+      go Unknown k = inl (sym (length-free c n (rw k)))
 
   pub length-faultless : (LengthFault c n → ⊥) → lengthError c n ≡ 0
   length-faultless h = go length-either

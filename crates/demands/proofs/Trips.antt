@@ -27,7 +27,7 @@ use Rattle.wire.proofs.Pieces.{bind-ok, about-ok, ok-ok, sized-ok, fitting-ok}
 use Rattle.column.specs.declared.column.Column.{Column}
 use Rattle.column.specs.declared.field.Field.{Field}
 use Rattle.column.specs.Types.{types, kindIn, kindOf}
-use Rattle.column.specs.Columns.{isNullable, prefixSize, prefixBytes, lengthError}
+use Rattle.column.specs.Columns.{isNullable, prefixSize, prefixBytes, greatest, lengthErrorOf, lengthError}
 use Rattle.header.specs.declared.header.Header.{Header}
 use Rattle.header.specs.declared.options.Options.{Options}
 use Rattle.header.specs.Header.{signature, headerAs, headerFields, headerBytes, headerOf, headerWritten}
@@ -499,7 +499,7 @@ unfolding columnsOf withSchema schemaAt check about sized sizedBy types kindIn k
 S-has = refl
 
 S-writes : (writeOriginal S-columns S-entries S-values 12 1 ≡ ok whole) × (writeUpdate S-columns S-changes S-values 12 1 ≡ ok S-change)
-unfolding writeOriginal writeUpdate writing check about fitting kindOf types kindIn isNullable prefixSize prefixBytes lengthError givensFrom isEntry areEntries entryOf entriesOf byteOf packIn pack fieldBytes fieldsOf presenceBits originalBytes updateBits forceBits updateData lengthStands inOriginal inUpdate entriesStand mapBytes intBytes
+unfolding writeOriginal writeUpdate writing check about fitting kindOf types kindIn isNullable prefixSize prefixBytes greatest lengthErrorOf lengthError givensFrom isEntry areEntries entryOf entriesOf byteOf packIn pack fieldBytes fieldsOf presenceBits originalBytes updateBits forceBits updateData lengthStands inOriginal inUpdate entriesStand mapBytes intBytes
 S-writes = (refl, refl)
 
 -- into any output of 12 bytes, from its second on

@@ -17,7 +17,7 @@ use Rattle.column.specs.declared.column.Column.{Column}
 use Rattle.column.specs.declared.types.Kind.{Kind}
 use Rattle.column.specs.declared.types.Kind.the-variants.{Fixed, Variable, Wide, Chapter, Unknown}
 use Rattle.column.specs.Types.{kindOf, variableKind, chapterKind}
-use Rattle.column.specs.Columns.{kind, width, isVariable, isChapter, isNullable, prefixSize, lengthErrorOf, lengthError}
+use Rattle.column.specs.Columns.{kind, width, isVariable, isChapter, isNullable, prefixSize, lengthError}
 use Rattle.encode.specs.Entries.{Entry, value, null, unchanged, Given, givenAt, givensFrom, isEntry, areEntries, entriesOf}
 use Rattle.encode.specs.Encoding.{originalBytes, updateData}
 use Rattle.encode.specs.Steps.{standsIn, rowIn}
