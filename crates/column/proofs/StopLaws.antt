@@ -13,9 +13,9 @@ use Rattle.wire.specs.Integers.{intAt}
 use Rattle.wire.specs.Maps.{topBit}
 use Rattle.wire.proofs.Laws.{int-suc, int-zero, int-fits, int-four}
 use Rattle.column.specs.declared.column.Column.{Column}
-use Rattle.column.specs.Columns.{width, isVariable, isWide, prefixSize, greatest, lengthErrorOf}
+use Rattle.column.specs.Columns.{width, isVariable, isWide, prefixSize, greatest}
 use Rattle.column.specs.Packed.{packedColumn, unpackedColumn}
-use Rattle.column.specs.Stops.{Stop, stopFlags, stopOf, prefixOf, flag, stopWord, stopIn, lengthAt, spanAt, spanError, Fits}
+use Rattle.column.specs.Stops.{Stop, stopFlags, stopOf, prefixOf, flag, stopWord, stopIn, lengthAt, spanError, Fits}
 use Rattle.column.proofs.Laws.{rule-most, greatest-wide, greatest-plain}
 use Rattle.column.proofs.Stops.{width-few}
 
