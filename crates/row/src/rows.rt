@@ -1,12 +1,12 @@
 // Original rows: presence, opening, the walk, look-up by the walk, the end of a row, the number of fields.
 ghost use mathlib.Core.Path.{_≡_};
-ghost use Prim.Native.Nat.{_≤_, _<_, _*_};
+ghost use Prim.Native.Nat.{_≤_, _<_, _*_, min};
 ghost use lib.ListN.{length};
 ghost use Rattle.wire.specs.Read.{ok, pick};
 ghost use Rattle.wire.specs.Integers.{toldInt};
 ghost use Rattle.column.specs.Columns.{isChapter, isNullable};
 ghost use Rattle.column.specs.Layout.{columnsFrom, columnsIn};
-ghost use Rattle.row.specs.Presence.{one, mark, marks, nullables, present, chapterPresent};
+ghost use Rattle.row.specs.Presence.{one, mark, marks, nullables, presenceBytes, present, chapterPresent};
 ghost use Rattle.row.specs.Rows.{opened, place, walk, rowEnd, lookUp, lookUpRow, always, setBits, fieldCount};
 ghost use Rattle.wire.specs.declared.error.Input.the-variants as input;
 ghost use Rattle.row.specs.declared.rows.LookUp.the-variants as look;
@@ -94,6 +94,18 @@ fn count_nullable<'a>(
         i += 1;
     }
     bits
+}
+
+// The bytes of the presence map of the first `n` of 64 columns.
+pub fn presence_bytes<'a>(
+    codes: &'a [u8; 64],
+    flags: &'a [u8; 64],
+    maxima: &'a [u16; 64],
+    n: usize,
+) -> usize
+    ensures { λ r. ⌜ r ≡ presenceBytes (columnsFrom (min n 64) 0 (now (codes .entry)) (now (flags .entry)) (now (maxima .entry))) ⌝ }
+{
+    map_bytes(count_nullable(codes, flags, maxima, lesser(n, 64)))
 }
 
 // Opens the row at `at`: its map is whole and no chapter's bit is set. Where its data start.
