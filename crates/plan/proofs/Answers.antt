@@ -1,10 +1,10 @@
 -- The ways out of a look-up through a plan, for the functions' proofs.
 -- Assumes nothing.
-use Prim.Native.Nat.{ℕ, _+_, _≤_, _<_, min}
+use Prim.Native.Nat.{ℕ, _+_, _≤_, _<_}
 use mathlib.Core.Bool.{true, false}
 use mathlib.Core.Path.{_≡_, refl, _∙_}
 use native.Mathlib.Omega.{arith}
-use lib.ListN.{length, getD}
+use lib.ListN.{length}
 use lib.Dec.{ltb}
 use borrow.Author.Tests.{lt-ltb, le-ltb, ltb-true, leb-true}
 use Rattle.wire.specs.declared.error.Input.{Input}
@@ -15,35 +15,35 @@ use Rattle.wire.proofs.Pieces.{bind-ok, about-ok, check-ok}
 use Rattle.column.specs.declared.field.Field.{Field}
 use Rattle.column.specs.Columns.{isVariable, isChapter}
 use Rattle.column.specs.Fields.{field as bytes, variableAt}
-use Rattle.column.specs.Layout.{mostColumns}
+use Rattle.column.specs.Packed.{unpackedColumn}
 use Rattle.column.proofs.Laws.{bytes-short, bytes-fit}
 use Rattle.row.specs.Presence.{present}
 use Rattle.row.specs.Rows.{Place, place, reached, field, null, chapter}
 use Rattle.plan.specs.declared.plan.Plan.{Plan}
-use Rattle.plan.specs.Packed.{unpacked, widthIn}
-use Rattle.plan.specs.Plans.{plannedWord, plannedColumn, plannedMark, plannedGap, plannedCount, plannedMap, plannedMarked, fieldIn, visits, stopsTo, jumped, landed, unset, plannedKnown, plannedOpen, plannedAnswer, plannedLookUp, plannedRow}
+use Rattle.plan.specs.Packed.{widthIn}
+use Rattle.plan.specs.Plans.{plannedWord, plannedColumn, plannedMark, plannedGap, plannedCount, plannedMap, plannedChapters, fieldIn, jumped, landed, unset, plannedKnown, plannedOpen, plannedAnswer, plannedLookUp, plannedRow}
 use Rattle.plan.specs.Lent.{foundIn, asked}
+use Rattle.plan.proofs.AnyPlan.{way}
 
 -- The ways out of the way to column k.
 
 module _ (p : Plan) (row : Bytes) (k : ℕ) where
-  pub jumped-refused : {e o : ℕ} {i : Input} → visits p row k (stopsTo p k) (place 0 0) ≡ bad e o i → jumped p row k ≡ bad e o i
+  pub jumped-refused : {e o : ℕ} {i : Input} → way p row k ≡ bad e o i → jumped p row k ≡ bad e o i
   unfolding jumped
   jumped-refused v = rw v
 
-  pub jumped-well :
-      (w : Place) → visits p row k (stopsTo p k) (place 0 0) ≡ ok w → {g : ℕ} → g ≡ plannedGap p k → jumped p row k ≡ ok (place (w .at + g) (w .prefixes))
+  pub jumped-well : (w : Place) → way p row k ≡ ok w → {g : ℕ} → g ≡ plannedGap p k → jumped p row k ≡ ok (place (w .at + g) (w .prefixes))
   unfolding jumped
   jumped-well w v e = rw (v, e)
 
 -- The field of a column that a plan holds as number n.
 
 module _ (n : ℕ) (row : Bytes) (w : Place) where
-  pub found-variable : isVariable (unpacked n) ≡ true → foundIn w (fieldIn n row (w .at)) ≡ foundIn w (variableAt (unpacked n) row (w .at))
+  pub found-variable : isVariable (unpackedColumn n) ≡ true → foundIn w (fieldIn n row (w .at)) ≡ foundIn w (variableAt (unpackedColumn n) row (w .at))
   unfolding fieldIn
   found-variable v = rw v
 
-  module _ (v : isVariable (unpacked n) ≡ false) where
+  module _ (v : isVariable (unpackedColumn n) ≡ false) where
     pub found-short : length row < w .at + widthIn n → foundIn w (fieldIn n row (w .at)) ≡ bad 1 (length row) input.Row
     unfolding fieldIn
     found-short h = rw (v, bytes-short row (w .at) (widthIn n) 0 h)
@@ -88,11 +88,11 @@ module _ (p : Plan) (row : Bytes) where
   open-short h = simp (whole-short row 0 (plannedMap p) (omega arith))
 
   module _ (h : plannedMap p ≤ length row) where
-    pub open-marked : {e o : ℕ} {i : Input} → unset row (plannedMarked p) ≡ bad e o i → plannedOpen p row ≡ bad e o i
+    pub open-marked : {e o : ℕ} {i : Input} → unset row (plannedChapters p) ≡ bad e o i → plannedOpen p row ≡ bad e o i
     unfolding plannedOpen
     open-marked m = simp (whole-fits row 0 (plannedMap p) (omega arith), m)
 
-    pub open-well : unset row (plannedMarked p) ≡ ok tt → plannedOpen p row ≡ ok (plannedMap p)
+    pub open-well : unset row (plannedChapters p) ≡ ok tt → plannedOpen p row ≡ ok (plannedMap p)
     unfolding plannedOpen
     open-well m = let z : 0 + plannedMap p ≡ plannedMap p = omega arith in simp (whole-fits row 0 (plannedMap p) (omega arith), m, z)
 
@@ -104,13 +104,13 @@ module _ (p : Plan) (row : Bytes) (k : ℕ) where
   asked-large h = simp (sized-over row h)
 
   module _ (l : length row ≤ limit) where
-    pub asked-column : min (getD (p .numbers) 128 0) mostColumns ≤ k → asked p row k ≡ bad 18 0 input.Column
-    unfolding asked about check
-    asked-column h = simp (sized-within row l, le-ltb k (min (getD (p .numbers) 128 0) mostColumns) h)
+    pub asked-column : plannedCount p ≤ k → asked p row k ≡ bad 18 0 input.Column
+    unfolding asked plannedKnown about check
+    asked-column h = simp (sized-within row l, le-ltb k (plannedCount p) h)
 
-    pub asked-well : k < min (getD (p .numbers) 128 0) mostColumns → asked p row k ≡ ok tt
-    unfolding asked about check
-    asked-well h = simp (sized-within row l, lt-ltb k (min (getD (p .numbers) 128 0) mostColumns) h)
+    pub asked-well : k < plannedCount p → asked p row k ≡ ok tt
+    unfolding asked plannedKnown about check
+    asked-well h = simp (sized-within row l, lt-ltb k (plannedCount p) h)
 
 -- what they tell where they pass
 module _ (p : Plan) (row : Bytes) (k : ℕ) (u : Unit {0}) (a : asked p row k ≡ ok u) where
@@ -120,8 +120,8 @@ module _ (p : Plan) (row : Bytes) (k : ℕ) (u : Unit {0}) (a : asked p row k �
       let (v, e, f) = bind-ok (about input.Row (sized row)) _ u a in
       leb-true _ _ (check-ok _ _ _ v (about-ok _ _ v e))
 
-  pub asked-known : k < min (getD (p .numbers) 128 0) mostColumns
-  unfolding asked
+  pub asked-known : k < plannedCount p
+  unfolding asked plannedKnown
   asked-known =
       let (v, e, f) = bind-ok (about input.Row (sized row)) _ u a in
       ltb-true _ _ (check-ok _ _ _ u (about-ok _ _ u f))
@@ -132,13 +132,13 @@ module _ (p : Plan) (row : Bytes) (k : ℕ) where
   row-checks :
       plannedRow p row k
       ≡ asked p row k >>= (λ (u : Unit {0}). about input.Row (plannedOpen p row) >>= (λ (s : ℕ). about input.Row (plannedAnswer p row k)))
-  unfolding plannedRow plannedLookUp plannedKnown asked
+  unfolding plannedRow plannedLookUp asked
   row-checks = go (about input.Row (sized row))
     where
       go :
           (r : Read (Unit {0})) →
           r >>= (λ (u : Unit {0}). plannedLookUp p row k)
-          ≡ (r >>= (λ (u : Unit {0}). about input.Column (check (ltb k (plannedCount p)) 18 0))) >>= (λ (u : Unit {0}). about input.Row (plannedOpen p row) >>= (λ (s : ℕ). about input.Row (plannedAnswer p row k)))
+          ≡ (r >>= (λ (u : Unit {0}). plannedKnown p k)) >>= (λ (u : Unit {0}). about input.Row (plannedOpen p row) >>= (λ (s : ℕ). about input.Row (plannedAnswer p row k)))
       go (ok u) = refl
       go (bad e o i) = refl
 

@@ -2,7 +2,7 @@
 -- the plan's own columns fix its place, it starts there.
 -- Assumes nothing.
 use Prim.Native.Nat.{ℕ, zero, suc, _+_, _≤_, _<_}
-use mathlib.Core.List.{List, [], _∷_}
+use mathlib.Core.List.{map}
 use mathlib.Core.Bool.{Bool, true, false, true≢false}
 use mathlib.Core.Path.{_≡_, refl, sym, ap, _∙_}
 use mathlib.Core.Logic.{⊎-elim}
@@ -12,47 +12,57 @@ use lib.ListN.{length}
 use lib.Dec.{ltb}
 use borrow.Author.Tests.{ltb-true}
 use Rattle.wire.specs.declared.error.Input.the-variants as input
-use Rattle.wire.specs.Read.{Bytes, ok, _>>=_, pick, about}
+use Rattle.wire.specs.Read.{Bytes, Read, ok, _>>=_, pick, about}
+use Rattle.wire.specs.Bits.{bitSet}
 use Rattle.wire.proofs.Pieces.{bad-ok, bind-ok, about-ok, ok-ok}
 use Rattle.column.specs.declared.field.Field.{Field}
 use Rattle.column.specs.Columns.{isVariable, isChapter, prefixBytes, isStop}
 use Rattle.column.specs.Fields.{field as bytes, bytesAt, variableAt}
+use Rattle.column.specs.Packed.{unpackedColumn}
 use Rattle.column.proofs.Laws.{prefix-plain, bytes-short, bytes-fit, field-variable, field-told}
 use Rattle.row.specs.Presence.{present}
-use Rattle.row.specs.Rows.{Place, place, reached, field, null, chapter}
+use Rattle.row.specs.Rows.{Place, place, reached, Answer, field, null, chapter}
+use Rattle.row.specs.Leaps.{leaps}
 use Rattle.row.proofs.Found.{chapter-field, null-field, field-field}
 use Rattle.plan.specs.declared.plan.Plan.{Plan}
-use Rattle.plan.specs.Packed.{unpacked, widthIn}
-use Rattle.plan.specs.Plans.{plannedWord, plannedColumn, plannedMark, plannedGap, fieldIn, passed, visit, visits, stopsTo, jumped, landed, plannedKnown, plannedOpen, plannedAnswer, plannedLookUp, FixedPlace, fixed, moving, noStops, fixedPlace}
-use Rattle.plan.proofs.Arrays.{plannedField}
+use Rattle.plan.specs.Packed.{widthIn, tabled}
+use Rattle.plan.specs.Plans.{plannedWord, plannedColumn, plannedMark, plannedGap, plannedFirst, startsBefore, stopsGone, stopsTo, byBit, fieldIn, jumped, landed, plannedKnown, plannedOpen, plannedAnswer, plannedLookUp, FixedPlace, fixed, moving, noStops, fixedPlace}
+
+-- what a look-up through a plan answers of a present column
+abbrev pub plannedField : Plan → Bytes → ℕ → Read Answer
+plannedField p row k = jumped p row k >>= (λ (w : Place). landed (plannedWord p k) row w >>= (λ (f : Field). ok (field f)))
+
+-- the way over the stops before column k
+abbrev pub way : Plan → Bytes → ℕ → Read Place
+way p row k = leaps (bitSet row) row (map byBit (stopsTo p k)) (place 0 0)
 
 -- What a field that is found by a number of a plan tells.
 pub record ToldIn (n : ℕ) (row : Bytes) (at : ℕ) (f : Field) : Type 0 where
-  pub starts : f .start ≡ at + prefixBytes (unpacked n)
+  pub starts : f .start ≡ at + prefixBytes (unpackedColumn n)
   pub forward : f .start ≤ f .end
   pub ends : f .end ≤ length row
 
 pub told-in : (n : ℕ) (row : Bytes) (at : ℕ) {f : Field} → fieldIn n row at ≡ ok f → ToldIn n row at f
 unfolding fieldIn
-told-in n row at {f} h = go (isVariable (unpacked n)) refl h
+told-in n row at {f} h = go (isVariable (unpackedColumn n)) refl h
   where
     go :
-        (v : Bool) → isVariable (unpacked n) ≡ v → pick v (variableAt (unpacked n) row at) (bytesAt row at (widthIn n) 0) ≡ ok f → ToldIn n row at f
+        (v : Bool) → isVariable (unpackedColumn n) ≡ v → pick v (variableAt (unpackedColumn n) row at) (bytesAt row at (widthIn n) 0) ≡ ok f → ToldIn n row at f
     go true v e =
-        let t = field-told (unpacked n) row at (field-variable (unpacked n) row at v ∙ e) in
+        let t = field-told (unpackedColumn n) row at (field-variable (unpackedColumn n) row at v ∙ e) in
         record { starts = t .starts; forward = t .forward; ends = t .ends }
     go false v e =
         let l : at + widthIn n ≤ length row = by-contra _ _ (λ l. bad-ok (sym (bytes-short row at (widthIn n) 0 l) ∙ e)) in
         let q : bytes at (at + widthIn n) 0 ≡ f = ok-ok (sym (bytes-fit row at (widthIn n) 0 l) ∙ e) in
         let s : at ≡ f .start = ap (λ (f : Field). f .start) q in
         let d : at + widthIn n ≡ f .end = ap (λ (f : Field). f .end) q in
-        record { starts = omega (arith, prefix-plain (unpacked n) v); forward = omega arith; ends = omega arith }
+        record { starts = omega (arith, prefix-plain (unpackedColumn n) v); forward = omega arith; ends = omega arith }
 
 -- What a look-up through a plan that finds a field tells: where the stops led, and the column's own field there.
 pub record Landed (p : Plan) (row : Bytes) (k : ℕ) (f : Field) : Type 0 where
   pub place : Place
   pub own : Field
-  pub way : visits p row k (stopsTo p k) (record { at = 0; prefixes = 0 }) ≡ ok place
+  pub come : way p row k ≡ ok place
   pub there : fieldIn (plannedWord p k) row (place .at + plannedGap p k) ≡ ok own
   pub same : f ≡ reached place own
 
@@ -61,7 +71,7 @@ module _ (p : Plan) (row : Bytes) (k : ℕ) where
   unfolding jumped landed
   field-landed f h =
       let (w, e1, f1) = bind-ok (jumped p row k) _ (field f) h in
-      let (v, e2, f2) = bind-ok (visits p row k (stopsTo p k) (place 0 0)) _ w e1 in
+      let (v, e2, f2) = bind-ok (way p row k) _ w e1 in
       let q : place (v .at + plannedGap p k) (v .prefixes) ≡ w = ok-ok f2 in
       let (g, e3, f3) = bind-ok (landed (plannedWord p k) row w) _ (field f) f1 in
       let (o, e4, f4) = bind-ok (fieldIn (plannedWord p k) row (w .at)) _ g e3 in
@@ -70,7 +80,7 @@ module _ (p : Plan) (row : Bytes) (k : ℕ) where
       record {
         place = v;
         own = o;
-        way = e2;
+        come = e2;
         there = ap (λ (w : Place). fieldIn (plannedWord p k) row (w .at)) q ∙ e4;
         same = sym (ap (λ (w : Place). reached w o) q ∙ r ∙ s);
       }
@@ -101,7 +111,7 @@ module _ (p : Plan) (row : Bytes) (k : ℕ) where
       let t = told-in (plannedWord p k) row (d .place .at + plannedGap p k) (d .there) in
       rw (d .same) (t .forward, t .ends)
 
--- By a plan whose columns before k are no stops, no visit moves.
+-- By a plan whose columns before k are no stops, none is gone over.
 
 none-stops : (p : Plan) (k : ℕ) → noStops p k ≡ true → (i : ℕ) → i < k → isStop (plannedColumn p i) ≡ false
 unfolding noStops
@@ -114,21 +124,22 @@ none-stops p (suc k) h i l = go (isStop (plannedColumn p k)) refl h (none-stops 
     go true e x r = absurd (true≢false (sym x))
     go false e x r = ⊎-elim (λ (y : i ≡ k). ap (λ (j : ℕ). isStop (plannedColumn p j)) y ∙ e) (λ (y : i < k). r x i y) (eq-or-lt-of-le (omega arith))
 
+pub way-none : (p : Plan) (row : Bytes) (k : ℕ) → stopsGone p k ≡ 0 → way p row k ≡ ok (place 0 0)
+unfolding tabled leaps
+way-none p row k e = rw e refl
+
 module _ (p : Plan) (row : Bytes) (k : ℕ) (none : noStops p k ≡ true) where
-  visit-still : (i : ℕ) (w : Place) → visit p row k i w ≡ ok w
-  unfolding visit
-  visit-still i w = go (ltb i k) refl
+  starts-none : startsBefore p k ≡ false
+  unfolding startsBefore
+  starts-none = go (ltb (plannedFirst p) k) refl
     where
-      go :
-          (t : Bool) → ltb i k ≡ t →
-          pick t (pick (isStop (plannedColumn p i)) (passed (plannedWord p i) row (place (w .at + plannedGap p i) (w .prefixes))) (ok w)) (ok w) ≡ ok w
-      go true e = rw (none-stops p k none i (ltb-true _ _ e)) refl
+      go : (t : Bool) → ltb (plannedFirst p) k ≡ t → pick t (isStop (plannedColumn p (plannedFirst p))) false ≡ false
+      go true e = none-stops p k none (plannedFirst p) (ltb-true _ _ e)
       go false e = refl
 
-  visits-still : (l : List ℕ) (w : Place) → visits p row k l w ≡ ok w
-  unfolding visits
-  visits-still [] w = refl
-  visits-still (i ∷ l) w = rw (visit-still i w) (visits-still l w)
+  gone-none : stopsGone p k ≡ 0
+  unfolding stopsGone
+  gone-none = rw starts-none refl
 
 -- a place by the two tests: the column is a chapter, nothing before it moves
 abbrev pub placeBy : (c t : Bool) → ℕ → FixedPlace
@@ -151,7 +162,7 @@ fixed-told p k x h =
 pub landed-placed :
     (p : Plan) (row : Bytes) (k : ℕ) (f : Field) → noStops p k ≡ true → Landed p row k f → f .start ≡ plannedGap p k + prefixBytes (plannedColumn p k)
 landed-placed p row k f n d =
-    let z : place 0 0 ≡ d .place = ok-ok (sym (visits-still p row k n (stopsTo p k) (place 0 0)) ∙ d .way) in
+    let z : place 0 0 ≡ d .place = ok-ok (sym (way-none p row k (gone-none p row k n)) ∙ d .come) in
     let y : 0 ≡ d .place .at = ap (λ (w : Place). w .at) z in
     let t = told-in (plannedWord p k) row (d .place .at + plannedGap p k) (d .there) in
     ap (λ (g : Field). g .start) (d .same) ∙ omega (arith, t .starts)

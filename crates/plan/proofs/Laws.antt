@@ -1,225 +1,234 @@
 -- The ways of a look-up through a plan, for the functions' proofs.
 -- Assumes nothing.
-use Prim.Native.Nat.{ℕ, zero, suc, _+_, _*_, _-_, _/_, _%_, _≤_, _<_}
-use mathlib.Core.Bool.{Bool, true, false}
+use Prim.Native.Nat.{ℕ, zero, suc, _+_, _*_, _-_, _/_, _≤_, _<_}
+use mathlib.Core.List.{List, [], _∷_, map}
+use mathlib.Core.Bool.{Bool, true, false, not}
 use mathlib.Core.Path.{_≡_, refl, sym, ap, _∙_}
 use native.Mathlib.Omega.{arith}
-use lib.ListN.{length}
-use lib.Dec.{ltb, leb, eqb}
-use borrow.Author.Tests.{lt-ltb, le-ltb, le-leb, eqb-true, eqb-false}
+use lib.Dec.{ltb, eqb}
+use lib.Bits.{bitAnd, and-zero-r}
+use borrow.Author.Tests.{lt-ltb, le-ltb, ne-eqb, eqb-true}
 use Rattle.wire.specs.declared.error.Input.{Input}
 use Rattle.wire.specs.declared.error.Input.the-variants as input
-use Rattle.wire.specs.Read.{Bytes, Read, ok, bad, _>>=_, pick, check}
-use Rattle.wire.specs.Bits.{bitSet}
-use Rattle.wire.specs.Integers.{readInt}
+use Rattle.wire.specs.Read.{Bytes, AreBytes, Read, ok, bad, _>>=_, pick, check}
+use Rattle.wire.specs.Bits.{bitAt, bitSet}
+use Rattle.wire.specs.Maps.{mapBits, topBit}
+use Rattle.wire.proofs.MapBits.{bit-small, map-bit, bit-none}
 use Rattle.column.specs.declared.column.Column.{Column}
 use Rattle.column.specs.declared.field.Field.{Field}
-use Rattle.column.specs.declared.types.Kind.the-variants.{Variable, Wide}
-use Rattle.column.specs.Types.{types, kindIn, kindOf}
-use Rattle.column.specs.Columns.{kind, isVariable, prefixSize, lengthError, isStop}
-use Rattle.column.specs.Fields.{field as bytes, bytesAt, variableAt}
-use Rattle.column.proofs.Laws.{int-inside, wide-code, wide-over, length-told, prefix-variable, bytes-short, bytes-fit, variable-refused, variable-long, variable-bytes, field-variable, field-told}
-use Rattle.row.specs.Presence.{one, mark, present}
-use Rattle.row.specs.Rows.{Place, place, past}
+use Rattle.column.specs.Columns.{isVariable, isStop, lengthErrorOf}
+use Rattle.column.specs.Fields.{variableAt}
+use Rattle.column.specs.Stops.{Stop, stopIn, prefixOf, there, lengthAt, spanAt, spanError}
+use Rattle.column.proofs.Laws.{field-variable, field-told}
+use Rattle.column.proofs.StopLaws.{stop-bit-small}
+use Rattle.row.specs.Presence.{one}
+use Rattle.row.specs.Rows.{Place, place}
+use Rattle.row.specs.Leaps.{passed, leaps}
+use Rattle.row.proofs.Leap.{span-long, error-long}
 use Rattle.row.specs.declared.rows.WalkRead.{WalkRead}
 use Rattle.row.specs.declared.rows.WalkRead.the-variants as walk
 use Rattle.plan.specs.declared.plan.Plan.{Plan}
-use Rattle.plan.specs.Packed.{unpacked, bitIn, widthIn, tabled}
-use Rattle.plan.specs.Plans.{plannedWord, plannedColumn, plannedGap, passedVariable, passed, visit, visits, unset}
-use Rattle.plan.specs.Lent.{Near, endOf, lengthOf}
-use Rattle.plan.proofs.Packed.{tabled-end, tabled-next}
+use Rattle.plan.specs.Packed.{beforeIn, tabled}
+use Rattle.plan.specs.Plans.{plannedWord, plannedColumn, plannedFirst, startsBefore, stopsGone, byBit, unsetFrom, unset}
+use Rattle.plan.specs.Lent.{Near, BitsOf, over}
 
--- the kinds of the types of variable length
-kind-bytes : Variable ≡ kindOf 0x80
-unfolding kindOf kindIn types
-kind-bytes = refl
+-- The first bits of a row as a number.
 
-kind-text : Variable ≡ kindOf 0x81
-unfolding kindOf kindIn types
-kind-text = refl
+pub bits-of : (row : Bytes) → AreBytes row → {bits : ℕ} → bits ≡ mapBits row 0 → BitsOf row bits
+unfolding bitSet
+bits-of row o {bits} e i h =
+    let q : topBit bits i ≡ bitAt row i = ap (λ (b : ℕ). topBit b i) e ∙ map-bit row 0 i o h in
+    q ∙ go (bitAt row i) (omega (arith, q, bit-small bits i))
+  where
+    go : (x : ℕ) → x ≤ 1 → x ≡ one (eqb x 1)
+    go zero h = refl
+    go (suc zero) h = refl
+    go (suc (suc x)) h = absurd (omega arith)
 
--- no error is 0
-small : (t : Bool) → t ≡ eqb (pick t 0 14) 0
-small true = refl
-small false = refl
+one-told : (t : Bool) → eqb (one t) 1 ≡ t
+one-told true = refl
+one-told false = refl
 
--- Fields of variable length.
+module _ (word : ℕ) (row : Bytes) (bits : ℕ) (b : BitsOf row bits) {n : ℕ} (e : n ≡ topBit bits (stopIn word .bit)) where
+  stop-bit : n ≡ one (bitSet row (stopIn word .bit))
+  stop-bit = e ∙ b (stopIn word .bit) (stop-bit-small word)
 
-module _ (c : Column) (v : isVariable c ≡ true) where
-  -- wide text by its code
-  kind-wide : c .code ≡ 0x82 → Wide ≡ kind c
-  unfolding kindOf kindIn types
-  kind-wide e = rw e refl
+  -- a stop whose bit decides
+  pub there-bit : {t : Bool} → t ≡ stopIn word .free → t ≡ true → eqb n 1 ≡ there (bitSet row) (stopIn word)
+  there-bit f h = rw (← f, h, stop-bit) (one-told (bitSet row (stopIn word .bit)))
 
-  -- any other
-  kind-plain : (c .code ≡ 0x82 → ⊥) → Variable ≡ kind c
-  kind-plain n = go (eqb (c .code) 0x80) refl (eqb (c .code) 0x81) refl
+  -- Past a stop of fixed width.
+  pub passed-fixed :
+      (w : Place) {g s : ℕ} → g ≡ stopIn word .gap → s ≡ stopIn word .size → stopIn word .variable ≡ false →
+      ok (place (w .at + g + s * n) (w .prefixes)) ≡ passed (bitSet row) row (byBit (stopIn word)) w
+  unfolding passed byBit spanAt spanError
+  passed-fixed w {g} {s} eg es v = rw (stop-bit, eg, es, v) (go (bitSet row (stopIn word .bit)))
     where
-      by-code : (k : ℕ) → c .code ≡ k → Variable ≡ kindOf k → Variable ≡ kind c
-      by-code k e h = h ∙ ap kindOf (sym e)
+      go :
+          (t : Bool) →
+          ok (place (w .at + stopIn word .gap + stopIn word .size * one t) (w .prefixes))
+          ≡ pick t (ok (place (w .at + stopIn word .gap + stopIn word .size) (w .prefixes + 0))) (ok (place (w .at + stopIn word .gap) (w .prefixes)))
+      go true =
+          let x : stopIn word .size * 1 ≡ stopIn word .size = omega arith in
+          let y : w .prefixes + 0 ≡ w .prefixes = omega arith in
+          rw (x, y) refl
+      go false = let x : w .at + stopIn word .gap + stopIn word .size * 0 ≡ w .at + stopIn word .gap = omega arith in rw x refl
 
-      go : (s : Bool) → eqb (c .code) 0x80 ≡ s → (t : Bool) → eqb (c .code) 0x81 ≡ t → Variable ≡ kind c
-      go true e t f = by-code 0x80 (eqb-true _ _ e) kind-bytes
-      go false e true f = by-code 0x81 (eqb-true _ _ f) kind-text
-      go false e false f = absurd (n (eqb-true _ _ (wide-code c (eqb-false _ _ e) (eqb-false _ _ f) ∙ v)))
+pub there-always : (word : ℕ) (row : Bytes) {t : Bool} → t ≡ stopIn word .free → t ≡ false → true ≡ there (bitSet row) (stopIn word)
+there-always word row f h = rw (← f, h) refl
 
-  module _ (n : ℕ) where
-    pub allowed-over : c .code ≡ 0x82 → 2 * c .maximum < n → false ≡ eqb (lengthError c n) 0
-    allowed-over e h = ap (λ (k : ℕ). eqb k 0) (wide-over c n e h)
+-- Past a stop of variable length.
 
-    pub allowed-even : c .code ≡ 0x82 → n ≤ 2 * c .maximum → eqb (n % 2) 0 ≡ eqb (lengthError c n) 0
-    allowed-even e h =
-        small (eqb (n % 2) 0)
-        ∙ ap (λ (k : ℕ). eqb k 0) (length-told c n (sym (kind-wide e)) (ap (λ (t : Bool). pick t (pick (eqb (n % 2) 0) 0 14) 14) (le-leb _ _ h)))
+module _ (word : ℕ) (row : Bytes) (w : Place) {g : ℕ} (eg : g ≡ stopIn word .gap) (v : stopIn word .variable ≡ true) where
+  pub passed-absent :
+      there (bitSet row) (stopIn word) ≡ false → ok (place (w .at + g) (w .prefixes)) ≡ passed (bitSet row) row (byBit (stopIn word)) w
+  unfolding passed byBit
+  passed-absent h = rw (eg, v, h) refl
 
-    pub allowed-plain : (c .code ≡ 0x82 → ⊥) → leb n (c .maximum) ≡ eqb (lengthError c n) 0
-    allowed-plain e = small (leb n (c .maximum)) ∙ ap (λ (k : ℕ). eqb k 0) (length-told c n (sym (kind-plain e)) refl)
+  pub passed-there :
+      there (bitSet row) (stopIn word) ≡ true → over (stopIn word) row (w .at + g) (w .prefixes) ≡ passed (bitSet row) row (byBit (stopIn word)) w
+  unfolding passed byBit spanAt spanError lengthAt
+  passed-there h = rw (eg, v, h) refl
 
-module _ (c : Column) (row : Bytes) (at : ℕ) where
-  -- what was read as its length
-  abbrev read : Read ℕ
-  read = readInt row at (prefixSize c)
+-- by its length
+module _
+    (t : Stop) (row : Bytes) (at prefixes : ℕ) (v : t .variable ≡ true) {l m : ℕ} {even : Bool} (el : l ≡ lengthAt t row at) (em : m ≡ t .most)
+    (ee : even ≡ t .even) {e : ℕ} (h : e ≡ lengthErrorOf m even l) where
+  error-told : spanError t row at ≡ e
+  error-told = error-long t row at v ∙ sym (rw (el, em, ee) at h)
 
-  -- where one ends whose length is not allowed, or not there
-  pub end-long : eqb (lengthError c (lengthOf read)) 0 ≡ false → 0 ≡ endOf (variableAt c row at)
-  end-long e = go read refl e
-    where
-      go : (r : Read ℕ) → read ≡ r → eqb (lengthError c (lengthOf r)) 0 ≡ false → 0 ≡ endOf (variableAt c row at)
-      go (ok n) h e = ap endOf (sym (variable-long c row at n h (eqb-false _ _ e)))
-      go (bad k o i) h e = ap endOf (sym (variable-refused c row at k o i h))
+  pub over-refused : 0 < e → bad e at input.Single ≡ over t row at prefixes
+  over-refused p = rw (error-told, ne-eqb e 0 (λ z. omega (arith, z))) refl
 
-  -- a length that can be allowed was read
-  length-read : lengthOf read < 131072 → read ≡ ok (lengthOf read)
-  length-read h = go read h
-    where
-      go : (r : Read ℕ) → lengthOf r < 131072 → r ≡ ok (lengthOf r)
-      go (ok n) h = refl
-      go (bad k o i) h = absurd (omega arith)
-
-  module _ (n : ℕ) (h : n ≡ lengthOf read) (l : n < 131072) where
-    told-read : read ≡ ok n
-    told-read = length-read (omega arith) ∙ ap ok (sym h)
-
-    -- its prefix is in the row
-    pub end-prefix : at + prefixSize c ≤ length row
-    end-prefix = int-inside row at (prefixSize c) n told-read
-
-    module _ (e : eqb (lengthError c n) 0 ≡ true) where
-      told-end : endOf (variableAt c row at) ≡ endOf (bytesAt row (at + prefixSize c) n 1)
-      told-end = ap endOf (variable-bytes c row at n told-read (eqb-true _ _ e))
-
-      pub end-cut : length row < at + prefixSize c + n → 0 ≡ endOf (variableAt c row at)
-      end-cut l = sym (told-end ∙ ap endOf (bytes-short row (at + prefixSize c) n 1 l))
-
-      pub end-fits : at + prefixSize c + n ≤ length row → at + prefixSize c + n ≡ endOf (variableAt c row at)
-      end-fits l = sym (told-end ∙ ap endOf (bytes-fit row (at + prefixSize c) n 1 l))
-
-  -- a field that is found ends behind its prefix
-  pub end-some : isVariable c ≡ true → {f : Field} → variableAt c row at ≡ ok f → endOf (variableAt c row at) ≡ 0 → ⊥
-  unfolding prefixSize
-  end-some v {f} q z =
-      let t = field-told c row at (field-variable c row at v ∙ q) in
-      let e : f .end ≡ 0 = ap endOf (sym q) ∙ z in
-      let l : 1 ≤ prefixSize c = go (ltb (c .maximum) 256) in
-      omega (arith, t .starts, t .forward, prefix-variable c v)
-    where
-      go : (t : Bool) → 1 ≤ pick t 1 4
-      go true = omega arith
-      go false = omega arith
-
-  -- what an end that is not 0 tells
-  module _ (v : isVariable c ≡ true) (e : ℕ) (h : e ≡ endOf (variableAt c row at)) (n : e ≡ 0 → ⊥) where
-    pub end-told : (variableAt c row at ≡ ok (bytes (at + prefixSize c) e 1)) × (at + prefixSize c ≤ e) × (e ≤ length row)
-    end-told = go (variableAt c row at) refl h
-      where
-        go : (r : Read Field) → variableAt c row at ≡ r → e ≡ endOf r → (r ≡ ok (bytes (at + prefixSize c) e 1)) × (at + prefixSize c ≤ e) × (e ≤ length row)
-        go (ok f) q l =
-            let t = field-told c row at (field-variable c row at v ∙ q) in
-            let s : f .start ≡ at + prefixSize c = t .starts ∙ ap (λ (x : ℕ). at + x) (prefix-variable c v) in
-            let p : f .prefixes ≡ 1 = t .counts ∙ ap (λ (x : Bool). pick x 1 0) v in
-            (rw (← s, ← p, l) refl, omega (arith, t .forward), omega (arith, t .ends))
-        go (bad k o i) q l = absurd (n l)
-
--- Past a stop.
+  pub over-past : {p : ℕ} → p ≡ prefixOf t → e ≡ 0 → ok (place (at + p + l) (prefixes + 1)) ≡ over t row at prefixes
+  over-past {p} ep z =
+      let q : at + (prefixOf t + lengthAt t row at) ≡ at + p + l = omega (arith, el, ep) in
+      rw (error-told, z, span-long t row at v, q, v) refl
 
 -- a bound may be greater
 pub near-more : (r : WalkRead) (m n prefixes : ℕ) → m ≤ n → Near m prefixes r → Near n prefixes r
 near-more (walk.At position count) m n prefixes h (a, b) = (omega arith, b)
 near-more (walk.Refused e) m n prefixes h a = tt
 
--- a width, or nothing
+-- a size, or nothing
 pub times-one : (w o : ℕ) → o ≤ 1 → w * o ≤ w
 times-one w zero h = omega arith
 times-one w (suc zero) h = omega arith
 times-one w (suc (suc o)) h = absurd (omega arith)
 
-module _ (c : Column) (bit : ℕ) (row : Bytes) (w : Place) where
-  pub variable-absent : present row (mark c bit) ≡ false → passedVariable c bit row w ≡ ok w
-  unfolding passedVariable
-  variable-absent t = rw t
+-- The way over a list of stops, from its number j on.
 
-  module _ (t : present row (mark c bit) ≡ true) where
-    pub variable-past : {f : Field} → variableAt c row (w .at) ≡ ok f → passedVariable c bit row w ≡ ok (past w f)
-    unfolding passedVariable
-    variable-past g = rw (t, g)
+module _ (row : Bytes) (n : ℕ) (f : ℕ → Stop) (j : ℕ) (w : Place) where
+  abbrev left : List Stop
+  left = map byBit (tabled f (n - j) j)
 
-    pub variable-bad : {e o : ℕ} {n : Input} → variableAt c row (w .at) ≡ bad e o n → passedVariable c bit row w ≡ bad e o n
-    unfolding passedVariable
-    variable-bad g = rw (t, g)
-
-module _ (n : ℕ) (row : Bytes) (w : Place) where
-  pub passed-variable : isVariable (unpacked n) ≡ true → passed n row w ≡ passedVariable (unpacked n) (bitIn n) row w
-  unfolding passed
-  passed-variable v = rw v
-
-  pub passed-fixed : isVariable (unpacked n) ≡ false → passed n row w ≡ ok (place (w .at + widthIn n * one (bitSet row (bitIn n))) (w .prefixes))
-  unfolding passed
-  passed-fixed v = rw v
-
--- One column on the way.
-
-module _ (p : Plan) (row : Bytes) (k i : ℕ) (w : Place) where
-  pub visit-behind : k ≤ i → visit p row k i w ≡ ok w
-  unfolding visit
-  visit-behind h = rw (le-ltb i k h)
-
-  module _ (h : i < k) where
-    pub visit-plain : isStop (plannedColumn p i) ≡ false → visit p row k i w ≡ ok w
-    unfolding visit
-    visit-plain s = rw (lt-ltb i k h, s)
-
-    pub visit-over : isStop (plannedColumn p i) ≡ true → {g : ℕ} → g ≡ plannedGap p i → visit p row k i w ≡ passed (plannedWord p i) row (place (w .at + g) (w .prefixes))
-    unfolding visit
-    visit-over s e = rw (lt-ltb i k h, s, e)
-
--- The way over a list of columns, from its number j on.
-
-module _ (p : Plan) (row : Bytes) (k n : ℕ) (f : ℕ → ℕ) (j : ℕ) (w : Place) where
-  pub visits-end : n ≤ j → visits p row k (tabled f (n - j) j) w ≡ ok w
-  unfolding visits
-  visits-end h = rw (tabled-end f n j h)
+  pub leaps-end : n ≤ j → leaps (bitSet row) row left w ≡ ok w
+  unfolding tabled leaps
+  leaps-end h = let z : n - j ≡ 0 = omega arith in rw z refl
 
   module _ (h : j < n) where
-    pub visits-next : {v : Place} → visit p row k (f j) w ≡ ok v → visits p row k (tabled f (n - j) j) w ≡ visits p row k (tabled f (n - (j + 1)) (j + 1)) v
-    unfolding visits
-    visits-next e = rw (tabled-next f n j h, e)
+    one-more : left ≡ byBit (f j) ∷ map byBit (tabled f (n - (j + 1)) (j + 1))
+    unfolding tabled
+    one-more =
+        let z : n - j ≡ suc (n - (j + 1)) = omega arith in
+        let y : suc j ≡ j + 1 = omega arith in
+        rw (z, y) refl
 
-    pub visits-refused : {e o : ℕ} {i : Input} → visit p row k (f j) w ≡ bad e o i → visits p row k (tabled f (n - j) j) w ≡ bad e o i
-    unfolding visits
-    visits-refused e = rw (tabled-next f n j h, e)
+    pub leaps-next :
+        {v : Place} → passed (bitSet row) row (byBit (f j)) w ≡ ok v →
+        leaps (bitSet row) row left w ≡ leaps (bitSet row) row (map byBit (tabled f (n - (j + 1)) (j + 1))) v
+    unfolding leaps
+    leaps-next e = ap (λ (l : List Stop). leaps (bitSet row) row l w) one-more ∙ rw e refl
+
+    pub leaps-refused : {e o : ℕ} {i : Input} → passed (bitSet row) row (byBit (f j)) w ≡ bad e o i → leaps (bitSet row) row left w ≡ bad e o i
+    unfolding leaps
+    leaps-refused e = ap (λ (l : List Stop). leaps (bitSet row) row l w) one-more ∙ rw e refl
+
+-- How many stops there are.
+
+module _ (p : Plan) (k : ℕ) where
+  pub starts-behind : {i : ℕ} → i ≡ plannedFirst p → k ≤ i → startsBefore p k ≡ false
+  unfolding startsBefore
+  starts-behind e h = rw (← e, le-ltb _ k h) refl
+
+  pub starts-at : {i : ℕ} → i ≡ plannedFirst p → i < k → startsBefore p k ≡ isStop (plannedColumn p i)
+  unfolding startsBefore
+  starts-at e h = rw (← e, lt-ltb _ k h) refl
+
+  pub gone-none : startsBefore p k ≡ false → stopsGone p k ≡ 0
+  unfolding stopsGone
+  gone-none e = rw e refl
+
+  pub gone-all : startsBefore p k ≡ true → stopsGone p k ≡ beforeIn (plannedWord p k)
+  unfolding stopsGone
+  gone-all e = rw e refl
+
+  pub gone-few : beforeIn (plannedWord p k) ≡ 0 → stopsGone p k ≡ 0
+  unfolding stopsGone
+  gone-few e = rw e (go (startsBefore p k))
+    where
+      go : (t : Bool) → _≡_ {A = ℕ} (pick t 0 0) 0
+      go true = refl
+      go false = refl
 
 -- Bits that must not be set.
 
-module _ (row : Bytes) (n : ℕ) (f : ℕ → ℕ) (j : ℕ) where
-  pub unset-end : n ≤ j → unset row (tabled f (n - j) j) ≡ ok tt
-  unfolding unset
-  unset-end h = rw (tabled-end f n j h)
+module _ (row : Bytes) (mask : ℕ) where
+  abbrev pub marked : ℕ → Bool
+  marked b = pick (eqb (topBit mask b) 1) (bitSet row b) false
 
-  module _ (h : j < n) where
-    pub unset-found : bitSet row (f j) ≡ true → unset row (tabled f (n - j) j) ≡ bad 12 (f j / 8) input.Single
-    unfolding unset check
-    unset-found e = rw (tabled-next f n j h, e)
+  pub marked-set : (b : ℕ) {t : Bool} → topBit mask b ≡ 1 → t ≡ bitSet row b → t ≡ marked b
+  marked-set b e h = rw e h
 
-    pub unset-next : bitSet row (f j) ≡ false → unset row (tabled f (n - j) j) ≡ unset row (tabled f (n - (j + 1)) (j + 1))
-    unfolding unset check
-    unset-next e = rw (tabled-next f n j h, e)
+  pub marked-none : (b : ℕ) → (topBit mask b ≡ 1 → ⊥) → false ≡ marked b
+  marked-none b e = rw (ne-eqb _ _ e) refl
+
+  module _ {b : ℕ} (h : b < 64) where
+    one-bit : unsetFrom row mask (64 - b) b ≡ check (not (marked b)) 12 (b / 8) >>= (λ (u : Unit {0}). unsetFrom row mask (64 - (b + 1)) (b + 1))
+    unfolding unsetFrom
+    one-bit =
+        let z : 64 - b ≡ suc (64 - (b + 1)) = omega arith in
+        let y : suc b ≡ b + 1 = omega arith in
+        rw (z, y) refl
+
+    pub unset-found : marked b ≡ true → unsetFrom row mask (64 - b) b ≡ bad 12 (b / 8) input.Single
+    unfolding check
+    unset-found e = one-bit ∙ rw e refl
+
+    pub unset-next : marked b ≡ false → unsetFrom row mask (64 - b) b ≡ unsetFrom row mask (64 - (b + 1)) (b + 1)
+    unfolding check
+    unset-next e = one-bit ∙ rw e refl
+
+  pub unset-end : {b : ℕ} → 64 ≤ b → unsetFrom row mask (64 - b) b ≡ ok tt
+  unfolding unsetFrom
+  unset-end {b} h = let z : 64 - b ≡ 0 = omega arith in rw z refl
+
+  -- none where no bit of the mask is one of the map's
+  module _ (none : (b : ℕ) → b < 64 → marked b ≡ false) where
+    unset-rest : (n b : ℕ) → b + n ≡ 64 → unsetFrom row mask n b ≡ ok tt
+    unfolding unsetFrom check
+    unset-rest zero b e = refl
+    unset-rest (suc n) b e = rw (none b (omega arith)) (unset-rest n (suc b) (omega arith))
+
+  pub unset-apart : AreBytes row → {bits : ℕ} → bits ≡ mapBits row 0 → bitAnd bits mask ≡ 0 → ok tt ≡ unset row mask
+  unset-apart o {bits} e a = sym (unset-rest none 64 0 (omega arith))
+    where
+      none : (b : ℕ) → b < 64 → marked b ≡ false
+      none b h = go (eqb (topBit mask b) 1) refl
+        where
+          go : (t : Bool) → eqb (topBit mask b) 1 ≡ t → pick t (bitSet row b) false ≡ false
+          go true x =
+              let z : one (bitSet row b) ≡ 0 = sym (bits-of row o e b h) ∙ bit-none bits mask b a (eqb-true _ _ x) in
+              sym (one-told (bitSet row b)) ∙ ap (λ (n : ℕ). eqb n 1) z
+          go false x = refl
+
+  pub unset-nothing : AreBytes row → mask ≡ 0 → ok tt ≡ unset row mask
+  unset-nothing o e = unset-apart o refl (rw e (and-zero-r (mapBits row 0)))
+
+-- The field of the column itself.
+
+pub variable-one : (c : Column) (row : Bytes) (at : ℕ) {f : Field} → isVariable c ≡ true → variableAt c row at ≡ ok f → f .prefixes ≤ 1
+variable-one c row at {f} v e =
+    let t = field-told c row at (field-variable c row at v ∙ e) in
+    let n : f .prefixes ≡ 1 = rw v at (t .counts) in
+    omega arith

@@ -1,18 +1,21 @@
 -- Promise: a plan whose numbers are lent. What contracts of inner functions cite stands behind it: bounds; the first checks.
 -- Assumes nothing.
-use Prim.Native.Nat.{ℕ, _+_, _≤_, min}
+use Prim.Native.Nat.{ℕ, _+_, _≤_, _<_}
 use mathlib.Core.List.{List}
 use mathlib.Core.Path.{_≡_}
-use lib.ListN.{getD}
-use lib.Dec.{ltb}
+use lib.Dec.{eqb}
 use Rattle.wire.specs.declared.error.Input.the-variants as input
-use Rattle.wire.specs.Read.{Bytes, Read, ok, bad, _>>=_, check, about, sized}
+use Rattle.wire.specs.Read.{Bytes, Read, ok, bad, _>>=_, pick, about, sized}
+use Rattle.wire.specs.Bits.{bitSet}
+use Rattle.wire.specs.Maps.{topBit}
 use Rattle.column.specs.declared.field.Field.{Field}
-use Rattle.column.specs.Layout.{mostColumns}
-use Rattle.row.specs.Rows.{Place, reached, Answer, field}
+use Rattle.column.specs.Stops.{Stop, spanAt, spanError}
+use Rattle.row.specs.Presence.{one}
+use Rattle.row.specs.Rows.{Place, place, reached, Answer, field}
 use Rattle.row.specs.declared.rows.WalkRead.{WalkRead}
 use Rattle.row.specs.declared.rows.WalkRead.the-variants as walk
 use Rattle.plan.specs.declared.plan.Plan.{Plan}
+use Rattle.plan.specs.Plans.{plannedKnown}
 
 -- the plan of these numbers
 abbrev pub lent : List ℕ → Plan
@@ -34,15 +37,14 @@ Small most (walk.Refused e) = Unit {0}
 abbrev pub Lies : (size : ℕ) → Read Answer → Type 0
 Lies size answer = (f : Field) → answer ≡ ok (field f) → (f .start ≤ f .end) × (f .end ≤ size)
 
--- where a field ends; 0 for an error
-abbrev pub endOf : Read Field → ℕ
-endOf (ok f) = f .end
-endOf (bad code offset single) = 0
+-- a number has the first bits of a row's map
+abbrev pub BitsOf : Bytes → ℕ → Type 0
+BitsOf row bits = (i : ℕ) → i < 64 → topBit bits i ≡ one (bitSet row i)
 
--- a length that was read; more than any column allows for an error
-abbrev pub lengthOf : Read ℕ → ℕ
-lengthOf (ok n) = n
-lengthOf (bad code offset single) = 4294967296
+-- past a stop that the row has, whose field stands at p
+abbrev pub over : Stop → Bytes → (p prefixes : ℕ) → Read Place
+over t s p prefixes =
+    pick (eqb (spanError t s p) 0) (ok (place (p + spanAt t s p) (prefixes + one (t .variable)))) (bad (spanError t s p) p input.Single)
 
 -- what a look-up answers by the field at a place
 abbrev pub foundIn : Place → Read Field → Read Answer
@@ -53,4 +55,4 @@ foundIn w (bad code offset single) = bad code offset input.Row
 unfoldable pub asked : Plan → Bytes → ℕ → Read (Unit {0})
 asked p row k = do
   _ ← about input.Row (sized row)
-  about input.Column (check (ltb k (min (getD (p .numbers) 128 0) mostColumns)) 18 0)
+  plannedKnown p k

@@ -103,10 +103,24 @@ stopsTo p k = tabled (plannedStop p) (stopsGone p k) 0
 unfoldable pub fieldIn : (n : ℕ) → Bytes → (at : ℕ) → Read Field
 fieldIn n row at = pick (isVariable (unpackedColumn n)) (variableAt (unpackedColumn n) row at) (bytesAt row at (widthIn n) 0)
 
+-- A stop as it is gone over: one of fixed width goes by its bit, whatever else its number says.
+unfoldable pub byBit : Stop → Stop
+byBit t =
+    record {
+      gap = t .gap;
+      bit = t .bit;
+      free = pick (t .variable) (t .free) true;
+      variable = t .variable;
+      long = t .long;
+      even = t .even;
+      size = t .size;
+      most = t .most;
+    }
+
 -- where column k stands: from the row's start over the stops before it, then its gap
 unfoldable pub jumped : Plan → Bytes → ℕ → Read Place
 jumped p row k = do
-  w ← leaps (bitSet row) row (stopsTo p k) (place 0 0)
+  w ← leaps (bitSet row) row (map byBit (stopsTo p k)) (place 0 0)
   ok (place (w .at + plannedGap p k) (w .prefixes))
 
 -- its field there

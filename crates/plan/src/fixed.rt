@@ -4,9 +4,11 @@ ghost use Prim.Native.Nat.{_≤_, _<_};
 ghost use Rattle.plan.specs.Plans.{noStops, fixedPlace};
 ghost use Rattle.plan.specs.Lent.{lent};
 ghost use Rattle.plan.specs.Told.{toldPlace};
-use crate::column_in;
+use crate::COUNTS;
+use crate::count_in;
 use crate::gap_in;
 use crate::plan::Plan;
+use column::packed::unpack;
 use wire::error::Error;
 use wire::error::ErrorKind;
 use wire::error::Input;
@@ -26,7 +28,7 @@ fn no_stops(plan: &[usize; 131], k: usize) -> bool
 {
     let mut i = k;
     while 0 < i {
-        if column_in(plan[i - 1]).is_stop() {
+        if unpack(plan[i - 1]).is_stop() {
             return false;
         }
         i -= 1;
@@ -38,7 +40,7 @@ fn no_stops(plan: &[usize; 131], k: usize) -> bool
 pub fn fixed_place(plan: Plan, k: usize) -> PlaceRead
     ensures { λ r. ⌜ toldPlace r ≡ fixedPlace plan k ⌝ }
 {
-    if lesser(plan.numbers[128], 64) <= k {
+    if lesser(count_in(plan.numbers[COUNTS]), 64) <= k {
         return PlaceRead::Refused(Error {
             kind: ErrorKind::Missing,
             offset: 0,
@@ -46,7 +48,7 @@ pub fn fixed_place(plan: Plan, k: usize) -> PlaceRead
         });
     }
     let word = plan.numbers[k];
-    let column = column_in(word);
+    let column = unpack(word);
     if column.is_chapter() {
         return PlaceRead::Moving;
     }

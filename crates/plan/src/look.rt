@@ -1,204 +1,146 @@
 // Look-up through a plan: from stop to stop, then to the column. A look-up is lent the plan's numbers, so that none of them is copied.
 ghost use mathlib.Core.Path.{_≡_};
-ghost use mathlib.Core.Bool.{true};
+ghost use mathlib.Core.Bool.{true, false};
+ghost use mathlib.Core.List.{map};
 ghost use Prim.Native.Nat.{_≤_, _<_, _+_};
 ghost use lib.ListN.{length};
 ghost use lib.Dec.{eqb};
-ghost use Rattle.wire.specs.Read.{refused, toldMatch, about};
-ghost use Rattle.wire.specs.Integers.{readInt, toldInt};
+ghost use Rattle.wire.specs.Read.{pick, toldMatch, about};
+ghost use Rattle.wire.specs.Bits.{bitSet};
+ghost use Rattle.wire.specs.Integers.{toldInt};
+ghost use Rattle.wire.specs.Maps.{topBit};
 ghost use Rattle.wire.specs.declared.error.Input.the-variants as input;
 ghost use Rattle.wire.specs.declared.integer.IntRead.the-variants as int;
-ghost use Rattle.column.specs.Columns.{isVariable, prefixSize, lengthError};
+ghost use Rattle.column.specs.Columns.{isVariable};
 ghost use Rattle.column.specs.Fields.{variableAt};
+ghost use Rattle.column.specs.Stops.{stopIn, prefixOf, there};
 ghost use Rattle.row.specs.Rows.{place};
+ghost use Rattle.row.specs.Leaps.{passed, leaps};
 ghost use Rattle.row.specs.declared.rows.LookUp.the-variants as look;
 ghost use Rattle.row.specs.Parts.{partOf};
 ghost use Rattle.row.specs.Told.{toldWalk, toldLookUp};
-ghost use Rattle.plan.specs.Packed.{stopIn, markedIn, tabled};
-ghost use Rattle.plan.specs.Plans.{plannedList, fieldIn, passedVariable, visit, visits, jumped, unset, plannedOpen, plannedAnswer, plannedRow};
+ghost use Rattle.plan.specs.Packed.{tabled};
+ghost use Rattle.plan.specs.Plans.{plannedStop, startsBefore, stopsGone, byBit, fieldIn, jumped, unset, plannedOpen, plannedAnswer, plannedRow};
 ghost use Rattle.plan.specs.Handles.{openedRow, startOf};
-ghost use Rattle.plan.specs.Lent.{lent, Near, Small, Lies, endOf, lengthOf, foundIn, asked};
+ghost use Rattle.plan.specs.Lent.{lent, Near, Small, Lies, BitsOf, over, foundIn, asked};
+use crate::CHAPTERS;
+use crate::COUNTS;
+use crate::MAP;
+use crate::STOPS;
+use crate::before_in;
 use crate::bit_in;
-use crate::column_in;
+use crate::count_in;
+use crate::first_in;
 use crate::gap_in;
-use crate::one;
 use crate::plan::Plan;
 use crate::width_in;
 use column::column::Column;
+use column::column::LengthCheck;
+use column::column::check_length;
 use column::field::Field;
 use column::field::FieldRead;
 use column::field::variable_at;
-use column::types::ColumnType;
+use column::packed::unpack;
+use column::stop;
+use column::stop::bit_on;
+use column::stop::is_even_in;
+use column::stop::is_free_in;
+use column::stop::is_long_in;
+use column::stop::is_variable_in;
+use column::stop::length_at;
+use column::stop::most_in;
+use column::stop::size_in;
 use row::rows::LookUp;
 use row::rows::WalkRead;
 use row::rows::is_present;
 use wire::LIMIT;
 use wire::bits::is_set;
 use wire::bytes::Matched;
-use wire::bytes::lacks;
 use wire::error::Error;
 use wire::error::ErrorKind;
 use wire::error::Input;
 use wire::integer::IntRead;
-use wire::integer::wide;
 use wire::lesser;
+use wire::maps::bits_at;
 
 // The start of a row that does not open: more than any row has.
 const NO_START: usize = 18_446_744_073_709_551_615;
 
-// Whether a field of a column of variable length may have this length.
-fn allows(column: Column, size: usize) -> bool
-    ensures { λ r. ⌜ (isVariable column ≡ true → r ≡ eqb (lengthError column size) 0) × (r ≡ true → size < 131072) ⌝ }
+// The bytes of the length of a stop.
+fn prefix_in(word: usize) -> usize
+    ensures { λ r. ⌜ (r ≡ prefixOf (stopIn word)) × (r ≤ 4) ⌝ }
 {
-    let maximum = column.maximum as usize;
-    if column.code == ColumnType::WSTR {
-        if 2 * maximum < size {
-            return false;
-        }
-        return size % 2 == 0;
+    if is_long_in(word) {
+        return 4;
     }
-    size <= maximum
+    1
 }
 
-// Where a field of variable length starts, and its length; more than any column allows where no length is there.
-struct Prefix {
-    pub start: usize,
-    pub length: usize,
+// Whether a row has the field of a stop, by the bits of its map.
+fn is_there(word: usize, bits: u64, row: &[u8]) -> bool
+    requires { ⌜ BitsOf (now row) bits ⌝ }
+    ensures { λ r. ⌜ r ≡ there (bitSet (now (row .entry))) (stopIn word) ⌝ }
+{
+    if is_free_in(word) {
+        return bit_on(word, bits) == 1;
+    }
+    true
 }
 
-// The length in front of such a field, which stands at `at`.
-fn prefix_in(column: Column, row: &[u8], at: usize) -> Prefix
-    ensures { λ r. ⌜ (r .length ≡ lengthOf (readInt (now (row .entry)) at (prefixSize column))) × (r .length < 131072 → r .start ≡ at + prefixSize column) ⌝ }
+// Past a field of variable length whose prefix stands at `at`, after so many prefixes.
+fn hop(word: usize, row: &[u8], at: usize, prefixes: usize) -> WalkRead
+    requires { ⌜ (stopIn word .variable ≡ true) × (at ≤ 1099511627776) × (prefixes ≤ 64) ⌝ }
+    ensures answers { λ r. ⌜ toldWalk r ≡ over (stopIn word) (now (row .entry)) at prefixes ⌝ }
+    ensures near { λ r. ⌜ Near (at + 4294967300) prefixes r ⌝ }
 {
-    if column.maximum < 256 {
-        if row.len() <= at {
-            return Prefix {
-                start: 0,
-                length: 4294967296,
-            };
-        }
-        return Prefix {
-            start: at + 1,
-            length: wide(row[at]),
-        };
-    }
-    if lacks(row.len(), at, 4) {
-        return Prefix {
-            start: 0,
-            length: 4294967296,
-        };
-    }
-    Prefix {
-        start: at + 4,
-        length: wide(row[at])
-            + 256 * (wide(row[at + 1]) + 256 * (wide(row[at + 2]) + 256 * wide(row[at + 3]))),
-    }
-}
-
-// Where a field of variable length ends whose prefix stands at `at`; 0 where it is refused. A number serves look-ups better than an
-// enum, and what is refused is read again.
-fn variable_end(column: Column, row: &[u8], at: usize) -> usize
-    requires { ⌜ isVariable column ≡ true ⌝ }
-    ensures { λ r. ⌜ r ≡ endOf (variableAt column (now (row .entry)) at) ⌝ }
-{
-    let prefix = prefix_in(column, row, at);
-    let length = prefix.length;
-    if allows(column, length) {
-        let end = prefix.start + length;
-        if row.len() < end {
-            return 0;
-        }
-        return end;
-    }
-    0
-}
-
-// Why such a field is refused. One that is found has an end, so the last case does not arise.
-fn refusal(column: Column, row: &[u8], at: usize) -> Error
-    requires { ⌜ (isVariable column ≡ true) × (endOf (variableAt column (now row) at) ≡ 0) ⌝ }
-    ensures { λ r. ⌜ variableAt column (now (row .entry)) at ≡ refused r ⌝ }
-{
-    match variable_at(column, row, at) {
-        FieldRead::Refused(e) => e,
-        FieldRead::Found(_) => Error {
-            kind: ErrorKind::Short,
-            offset: row.len(),
+    let length = length_at(word, row, at);
+    match check_length(most_in(word), is_even_in(word), length) {
+        LengthCheck::Refused(kind) => WalkRead::Refused(Error {
+            kind,
+            offset: at,
             input: Input::Single,
+        }),
+        LengthCheck::Allowed => WalkRead::At {
+            position: at + prefix_in(word) + length,
+            prefixes: prefixes + 1,
         },
     }
 }
 
-// Past a stop of variable length with this bit, from a position with so many prefixes.
-fn pass_variable(column: Column, bit: usize, row: &[u8], at: usize, prefixes: usize) -> WalkRead
-    requires { ⌜ (isVariable column ≡ true) × (prefixes ≤ 64) ⌝ }
-    ensures answers { λ r. ⌜ toldWalk r ≡ passedVariable column bit (now (row .entry)) (place at prefixes) ⌝ }
-    ensures near { λ r. ⌜ Near (length (now (row .entry)) + at) prefixes r ⌝ }
+// Past the stop that a plan holds as this number, in a row with these bits, from a position with so many prefixes.
+fn pass(word: usize, bits: u64, row: &[u8], at: usize, prefixes: usize) -> WalkRead
+    requires { ⌜ BitsOf (now row) bits × (at ≤ 549755813888) × (prefixes ≤ 64) ⌝ }
+    ensures answers { λ r. ⌜ toldWalk r ≡ passed (bitSet (now (row .entry))) (now (row .entry)) (byBit (stopIn word)) (place at prefixes) ⌝ }
+    ensures near { λ r. ⌜ Near (at + 4295032836) prefixes r ⌝ }
 {
-    if is_present(column, bit, row) {
-        let end = variable_end(column, row, at);
-        if end != 0 {
-            return WalkRead::At {
-                position: end,
-                prefixes: prefixes + 1,
-            };
-        }
-        return WalkRead::Refused(refusal(column, row, at));
-    }
-    WalkRead::At {
-        position: at,
-        prefixes: prefixes,
-    }
-}
-
-// Column `i` of a plan's numbers on the way to column `k`, from a position with so many prefixes.
-fn visit(
-    plan: &[usize; 131],
-    row: &[u8],
-    k: usize,
-    i: usize,
-    at: usize,
-    prefixes: usize,
-) -> WalkRead
-    requires { ⌜ (k ≤ 64) × (at ≤ 4294967296) × (prefixes ≤ 64) ⌝ }
-    ensures answers { λ r. ⌜ toldWalk r ≡ visit (lent (now (plan .entry))) (now (row .entry)) k i (place at prefixes) ⌝ }
-    ensures near { λ r. ⌜ Near (length (now (row .entry)) + at + 65790) prefixes r ⌝ }
-{
-    if i < k {
-        let word = plan[i];
-        let column = column_in(word);
-        if column.is_variable() {
-            return pass_variable(column, bit_in(word), row, at + gap_in(word), prefixes);
-        }
-        let stop = column.is_stop();
-        if stop {
-            return WalkRead::At {
-                position: at + gap_in(word) + width_in(word) * one(is_set(row, bit_in(word))),
-                prefixes: prefixes,
-            };
+    let start = at + stop::gap_in(word);
+    if is_variable_in(word) {
+        if is_there(word, bits, row) {
+            return hop(word, row, start, prefixes);
         }
         return WalkRead::At {
-            position: at,
+            position: start,
             prefixes: prefixes,
         };
     }
     WalkRead::At {
-        position: at,
+        position: start + size_in(word) * bit_on(word, bits),
         prefixes: prefixes,
     }
 }
 
-// From stop to stop up to column `k`, over the first `n` stops listed.
-fn follow(plan: &[usize; 131], n: usize, row: &[u8], k: usize) -> WalkRead
-    requires { ⌜ (n ≤ 64) × (k ≤ 64) × (length (now row) ≤ 16777216) ⌝ }
-    ensures answers { λ r. ⌜ toldWalk r ≡ visits (lent (now (plan .entry))) (now (row .entry)) k (tabled (λ j. stopIn (plannedList (lent (now (plan .entry))) j)) n 0) (place 0 0) ⌝ }
-    ensures small { λ r. ⌜ Small 2147483648 r ⌝ }
+// From stop to stop, over the first `n` stops listed.
+fn follow(plan: &[usize; 131], n: usize, row: &[u8]) -> WalkRead
+    requires { ⌜ n ≤ 64 ⌝ }
+    ensures answers { λ r. ⌜ toldWalk r ≡ leaps (bitSet (now (row .entry))) (now (row .entry)) (map byBit (tabled (plannedStop (lent (now (plan .entry)))) n 0)) (place 0 0) ⌝ }
+    ensures small { λ r. ⌜ Small 549755813888 r ⌝ }
 {
+    let bits = bits_at(row, 0);
     let mut at = 0;
     let mut prefixes = 0;
     let mut j = 0;
     while j < n {
-        let i = plan[64 + j] / 256 % 256;
-        match visit(plan, row, k, i, at, prefixes) {
+        match pass(plan[STOPS + j], bits, row, at, prefixes) {
             WalkRead::Refused(e) => {
                 return WalkRead::Refused(e);
             }
@@ -218,14 +160,47 @@ fn follow(plan: &[usize; 131], n: usize, row: &[u8], k: usize) -> WalkRead
     }
 }
 
+// Whether a plan's list of stops starts with one before column `k`.
+fn starts_before(plan: &[usize; 131], k: usize) -> bool
+    requires { ⌜ k < 64 ⌝ }
+    ensures { λ r. ⌜ r ≡ startsBefore (lent (now (plan .entry))) k ⌝ }
+{
+    let i = first_in(plan[COUNTS]);
+    if i < k {
+        return unpack(plan[i]).is_stop();
+    }
+    false
+}
+
+// How many stops a look-up of column `k` goes over.
+fn stops_gone(plan: &[usize; 131], k: usize) -> usize
+    requires { ⌜ k < 64 ⌝ }
+    ensures { λ r. ⌜ (r ≡ stopsGone (lent (now (plan .entry))) k) × (r ≤ 64) ⌝ }
+{
+    let n = before_in(plan[k]);
+    if n == 0 {
+        return 0;
+    }
+    if starts_before(plan, k) {
+        return n;
+    }
+    0
+}
+
 // The way to column `k`: from the row's start over the stops before it, then its gap.
 fn jump(plan: &[usize; 131], row: &[u8], k: usize) -> WalkRead
-    requires { ⌜ (k < 64) × (length (now row) ≤ 16777216) ⌝ }
+    requires { ⌜ k < 64 ⌝ }
     ensures answers { λ r. ⌜ toldWalk r ≡ jumped (lent (now (plan .entry))) (now (row .entry)) k ⌝ }
-    ensures small { λ r. ⌜ Small 4294967296 r ⌝ }
+    ensures small { λ r. ⌜ Small 1099511627776 r ⌝ }
 {
-    let n = lesser(plan[64 + k] % 256, 64);
-    match follow(plan, n, row, k) {
+    let n = stops_gone(plan, k);
+    if n == 0 {
+        return WalkRead::At {
+            position: gap_in(plan[k]),
+            prefixes: 0,
+        };
+    }
+    match follow(plan, n, row) {
         WalkRead::Refused(e) => WalkRead::Refused(e),
         WalkRead::At { position, prefixes } => WalkRead::At {
             position: position + gap_in(plan[k]),
@@ -251,23 +226,22 @@ fn find_variable(column: Column, row: &[u8], at: usize, prefixes: usize) -> Look
     requires { ⌜ (isVariable column ≡ true) × (prefixes ≤ 64) ⌝ }
     ensures { λ r. ⌜ toldLookUp r ≡ foundIn (place at prefixes) (variableAt column (now (row .entry)) at) ⌝ }
 {
-    let end = variable_end(column, row, at);
-    if end != 0 {
-        return LookUp::Found(Field {
-            start: at + column.prefix_size(),
-            end,
-            prefixes: prefixes + 1,
-        });
+    match variable_at(column, row, at) {
+        FieldRead::Refused(e) => about_row(e),
+        FieldRead::Found(f) => LookUp::Found(Field {
+            start: f.start,
+            end: f.end,
+            prefixes: prefixes + f.prefixes,
+        }),
     }
-    about_row(refusal(column, row, at))
 }
 
 // The field at `at` of a column that a plan holds as this number, after so many prefixes.
 fn find_at(word: usize, row: &[u8], at: usize, prefixes: usize) -> LookUp
-    requires { ⌜ (at ≤ 4294967296) × (prefixes ≤ 64) ⌝ }
+    requires { ⌜ (at ≤ 1099511627776) × (prefixes ≤ 64) ⌝ }
     ensures { λ r. ⌜ toldLookUp r ≡ foundIn (place at prefixes) (fieldIn word (now (row .entry)) at) ⌝ }
 {
-    let column = column_in(word);
+    let column = unpack(word);
     if column.is_variable() {
         return find_variable(column, row, at, prefixes);
     }
@@ -292,7 +266,7 @@ fn look_at(plan: &[usize; 131], row: &[u8], k: usize) -> LookUp
     ensures { λ r. ⌜ toldLookUp r ≡ about input.Row (plannedAnswer (lent (now (plan .entry))) (now (row .entry)) k) ⌝ }
 {
     let word = plan[k];
-    let column = column_in(word);
+    let column = unpack(word);
     if column.is_chapter() {
         return LookUp::Chapter;
     }
@@ -305,40 +279,62 @@ fn look_at(plan: &[usize; 131], row: &[u8], k: usize) -> LookUp
     LookUp::Null
 }
 
-// None of the first `n` bits listed is set.
-fn check_marked(plan: &[usize; 131], n: usize, row: &[u8]) -> Matched
-    requires { ⌜ n ≤ 64 ⌝ }
-    ensures { λ r. ⌜ toldMatch r ≡ unset (now (row .entry)) (tabled (λ j. markedIn (plannedList (lent (now (plan .entry))) j)) n 0) ⌝ }
+// Whether a bit is set both in the mask and in the row's map.
+fn is_marked(mask: usize, b: usize, row: &[u8]) -> bool
+    requires { ⌜ b < 64 ⌝ }
+    ensures { λ r. ⌜ r ≡ pick (eqb (topBit mask b) 1) (bitSet (now (row .entry)) b) false ⌝ }
 {
-    let mut j = 0;
-    while j < n {
-        let bit = plan[64 + j] / 65536;
-        if is_set(row, bit) {
+    if (mask >> (63 - b)) % 2 == 1 {
+        return is_set(row, b);
+    }
+    false
+}
+
+// No bit is, bit by bit: this finds the first.
+fn check_bits(mask: usize, row: &[u8]) -> Matched
+    ensures { λ r. ⌜ toldMatch r ≡ unset (now (row .entry)) mask ⌝ }
+{
+    let mut b = 0;
+    while b < 64 {
+        if is_marked(mask, b, row) {
             return Matched::Refused(Error {
                 kind: ErrorKind::ChapterBit,
-                offset: bit / 8,
+                offset: b / 8,
                 input: Input::Single,
             });
         }
-        j += 1;
+        b += 1;
     }
     Matched::Same
 }
 
-// Opens a row by a plan's map size and marked bits. Where its data start.
+// No bit is: mostly the mask is 0, or no bit of all is.
+fn check_mask(mask: usize, row: &[u8]) -> Matched
+    ensures { λ r. ⌜ toldMatch r ≡ unset (now (row .entry)) mask ⌝ }
+{
+    if mask == 0 {
+        return Matched::Same;
+    }
+    if bits_at(row, 0) as usize & mask == 0 {
+        return Matched::Same;
+    }
+    check_bits(mask, row)
+}
+
+// Opens a row by a plan's map size and its bits of nullable chapters. Where its data start.
 fn open_map(plan: &[usize; 131], row: &[u8]) -> IntRead
     ensures { λ r. ⌜ toldInt r ≡ plannedOpen (lent (now (plan .entry))) (now (row .entry)) ⌝ }
 {
-    if row.len() < plan[129] {
+    if row.len() < plan[MAP] {
         return IntRead::Refused(Error {
             kind: ErrorKind::Short,
             offset: row.len(),
             input: Input::Single,
         });
     }
-    match check_marked(plan, lesser(plan[130], 64), row) {
+    match check_mask(plan[CHAPTERS], row) {
         Matched::Refused(e) => IntRead::Refused(e),
-        Matched::Same => IntRead::Int(plan[129]),
+        Matched::Same => IntRead::Int(plan[MAP]),
     }
 }
 
@@ -365,7 +361,7 @@ fn check_asked(plan: &[usize; 131], row: &[u8], k: usize) -> Matched
             input: Input::Row,
         });
     }
-    if k >= lesser(plan[128], 64) {
+    if k >= lesser(count_in(plan[COUNTS]), 64) {
         return Matched::Refused(Error {
             kind: ErrorKind::Missing,
             offset: 0,
