@@ -1,29 +1,34 @@
 -- Through any plan, an error stands in the row or at its end.
 -- Assumes nothing.
-use Prim.Native.Nat.{ℕ, _+_, _*_, _/_, _≤_, _<_}
-use mathlib.Core.List.{List, [], _∷_}
+use Prim.Native.Nat.{ℕ, zero, suc, _+_, _/_, _≤_, _<_}
+use mathlib.Core.List.{List, [], _∷_, map}
 use mathlib.Core.Bool.{Bool, true, false, not, true≢false}
 use mathlib.Core.Path.{_≡_, refl, sym, ap, _∙_}
 use native.Mathlib.Omega.{arith}
 use lib.ListN.{length}
-use lib.Dec.{leb, ltb}
-use borrow.Author.Tests.{leb-true, leb-false}
+use lib.Dec.{leb, ltb, eqb}
+use borrow.Author.Tests.{leb-true, leb-false, eqb-false}
 use Rattle.wire.specs.declared.error.Input.{Input}
 use Rattle.wire.specs.declared.error.Input.the-variants as input
 use Rattle.wire.specs.Read.{Bytes, Read, ok, bad, _>>=_, pick, check, about, limit, sizedBy, sized}
 use Rattle.wire.specs.Bits.{bitSet}
 use Rattle.wire.proofs.Laws.{bit-past}
-use Rattle.column.specs.declared.column.Column.{Column}
-use Rattle.column.specs.Columns.{isVariable, isChapter, isStop}
+use Rattle.wire.specs.Maps.{topBit}
+use Rattle.column.specs.Columns.{isVariable, isChapter}
 use Rattle.column.specs.Fields.{bytesAt, variableAt}
-use Rattle.row.specs.Presence.{one, mark, present}
+use Rattle.column.specs.Packed.{unpackedColumn}
+use Rattle.column.specs.Stops.{Stop, prefixOf, there, lengthAt, spanAt, spanError}
+use Rattle.column.proofs.Laws.{rule-none, rule-refused}
+use Rattle.row.specs.Presence.{one, present}
 use Rattle.row.specs.Rows.{Place}
 use Rattle.row.specs.Rows as rows
+use Rattle.row.specs.Leaps.{passed, leaps}
+use Rattle.row.proofs.Leap.{error-long, error-plain}
 use Rattle.grammar.proofs.RowErrors.{OfError, an-error, of-bind, of-check, of-other, RowErrorAt}
 use Rattle.grammar.proofs.RowErrors as row
 use Rattle.plan.specs.declared.plan.Plan.{Plan}
-use Rattle.plan.specs.Packed.{unpacked, bitIn, widthIn}
-use Rattle.plan.specs.Plans.{plannedWord, plannedColumn, plannedMark, plannedGap, plannedCount, plannedMap, plannedMarked, stopsTo, fieldIn, passedVariable, passed, visit, visits, jumped, landed, unset, plannedKnown, plannedOpen, plannedAnswer, plannedLookUp, plannedRow}
+use Rattle.plan.specs.Packed.{widthIn}
+use Rattle.plan.specs.Plans.{plannedWord, plannedColumn, plannedMark, plannedCount, plannedMap, plannedChapters, stopsTo, byBit, fieldIn, jumped, landed, unsetFrom, plannedKnown, plannedOpen, plannedAnswer, plannedLookUp, plannedRow}
 
 -- Which error can stand where.
 
@@ -34,55 +39,68 @@ bit-inside s b e = go (leb (length s) (b / 8)) refl
     go true q = absurd (true≢false (ap not (sym (bit-past s b (leb-true _ _ q))) ∙ e))
     go false q = leb-false _ _ q
 
+-- the length of a prefix that is cut off
+length-lacks : (t : Stop) (s : Bytes) (p : ℕ) → leb (p + prefixOf t) (length s) ≡ false → lengthAt t s p ≡ 0
+unfolding lengthAt
+length-lacks t s p h = rw h refl
+
+-- a length that is refused was read, so its prefix stands in the input
+refused-length : (t : Stop) (s : Bytes) (p : ℕ) → eqb (spanError t s p) 0 ≡ false → (14 ≡ spanError t s p) × (p < length s)
+refused-length t s p e = go (t .variable) refl (leb (p + prefixOf t) (length s)) refl
+  where
+    first : (long : Bool) → 1 ≤ pick long 4 1
+    first true = omega arith
+    first false = omega arith
+
+    go :
+        (v : Bool) → t .variable ≡ v → (u : Bool) → leb (p + prefixOf t) (length s) ≡ u → (14 ≡ spanError t s p) × (p < length s)
+    go false v u h = absurd (eqb-false _ _ e (error-plain t s p v))
+    go true v true h =
+        (sym (error-long t s p v ∙ rule-refused (t .most) (t .even) (lengthAt t s p) (rw (error-long t s p v) at e)), omega (arith, leb-true (p + prefixOf t) (length s) h, first (t .long)))
+    go true v false h = absurd (eqb-false _ _ e (error-long t s p v ∙ rw (length-lacks t s p h) (rule-none (t .most) (t .even))))
+
 module _ (p : Plan) (s : Bytes) where
-  of-unset : (bits : List ℕ) → OfError (RowErrorAt (length s)) (unset s bits)
-  unfolding unset
-  of-unset [] = row.no-error
-  of-unset (b ∷ bs) = of-bind _ _ (of-check (not (bitSet s b)) 12 (b / 8) (λ e. row.chapter-bit (bit-inside s b e))) (λ _ _. of-unset bs)
+  of-unset : (mask n b : ℕ) → OfError (RowErrorAt (length s)) (unsetFrom s mask n b)
+  unfolding unsetFrom
+  of-unset mask zero b = row.no-error
+  of-unset mask (suc n) b =
+      of-bind _ _ (of-check (not (pick (eqb (topBit mask b) 1) (bitSet s b) false)) 12 (b / 8) (λ e. row.chapter-bit (bit-inside s b (go (eqb (topBit mask b) 1) e))))
+      (λ _ _. of-unset mask n (suc b))
+    where
+      go : (t : Bool) → not (pick t (bitSet s b) false) ≡ false → not (bitSet s b) ≡ false
+      go true e = e
+      go false e = absurd (true≢false e)
 
   pub of-planned-open : OfError (RowErrorAt (length s)) (plannedOpen p s)
   unfolding plannedOpen
-  of-planned-open = of-bind _ _ (row.of-whole s 0 (plannedMap p)) (λ _ _. of-bind _ _ (of-unset (plannedMarked p)) (λ _ _. row.no-error))
+  of-planned-open = of-bind _ _ (row.of-whole s 0 (plannedMap p)) (λ _ _. of-bind _ _ (of-unset (plannedChapters p) 64 0) (λ _ _. row.no-error))
 
-  of-passed-variable : (c : Column) (bit : ℕ) (w : Place) → OfError (RowErrorAt (length s)) (passedVariable c bit s w)
-  unfolding passedVariable
-  of-passed-variable c bit w = go (present s (mark c bit))
-    where
-      go : (t : Bool) → OfError (RowErrorAt (length s)) (pick t (variableAt c s (w .at) >>= (λ f. ok (rows.past w f))) (ok w))
-      go true = of-bind _ _ (row.of-variable s c (w .at)) (λ _ _. row.no-error)
-      go false = row.no-error
-
-  of-passed : (n : ℕ) (w : Place) → OfError (RowErrorAt (length s)) (passed n s w)
+  of-passed : (t : Stop) (w : Place) → OfError (RowErrorAt (length s)) (passed (bitSet s) s t w)
   unfolding passed
-  of-passed n w = go (isVariable (unpacked n))
+  of-passed t w = go (there (bitSet s) t) (eqb (spanError t s (w .at + t .gap)) 0) refl
     where
       go :
-          (t : Bool) →
+          (h u : Bool) → eqb (spanError t s (w .at + t .gap)) 0 ≡ u →
           OfError (RowErrorAt (length s))
-          (pick t (passedVariable (unpacked n) (bitIn n) s w) (ok (rows.place (w .at + widthIn n * one (bitSet s (bitIn n))) (w .prefixes))))
-      go true = of-passed-variable (unpacked n) (bitIn n) w
-      go false = row.no-error
+          (pick h
+          (pick u (ok (rows.place (w .at + t .gap + spanAt t s (w .at + t .gap)) (w .prefixes + one (t .variable))))
+          (bad (spanError t s (w .at + t .gap)) (w .at + t .gap) input.Single))
+          (ok (rows.place (w .at + t .gap) (w .prefixes))))
+      go true true e = row.no-error
+      go true false e = let (c, l) = refused-length t s (w .at + t .gap) e in rw (← c) (an-error (row.length-rule l))
+      go false u e = row.no-error
 
-  of-visit : (k i : ℕ) (w : Place) → OfError (RowErrorAt (length s)) (visit p s k i w)
-  unfolding visit
-  of-visit k i w = go (ltb i k) (isStop (plannedColumn p i))
-    where
-      go : (t u : Bool) → OfError (RowErrorAt (length s)) (pick t (pick u (passed (plannedWord p i) s (rows.place (w .at + plannedGap p i) (w .prefixes))) (ok w)) (ok w))
-      go true true = of-passed (plannedWord p i) _
-      go true false = row.no-error
-      go false u = row.no-error
-
-  of-visits : (k : ℕ) (is : List ℕ) (w : Place) → OfError (RowErrorAt (length s)) (visits p s k is w)
-  unfolding visits
-  of-visits k [] w = row.no-error
-  of-visits k (i ∷ is) w = of-bind _ _ (of-visit k i w) (λ v _. of-visits k is v)
+  of-leaps : (ts : List Stop) (w : Place) → OfError (RowErrorAt (length s)) (leaps (bitSet s) s ts w)
+  unfolding leaps
+  of-leaps [] w = row.no-error
+  of-leaps (t ∷ ts) w = of-bind _ _ (of-passed t w) (λ v _. of-leaps ts v)
 
   of-field-in : (n at : ℕ) → OfError (RowErrorAt (length s)) (fieldIn n s at)
   unfolding fieldIn
-  of-field-in n at = go (isVariable (unpacked n))
+  of-field-in n at = go (isVariable (unpackedColumn n))
     where
-      go : (t : Bool) → OfError (RowErrorAt (length s)) (pick t (variableAt (unpacked n) s at) (bytesAt s at (widthIn n) 0))
-      go true = row.of-variable s (unpacked n) at
+      go : (t : Bool) → OfError (RowErrorAt (length s)) (pick t (variableAt (unpackedColumn n) s at) (bytesAt s at (widthIn n) 0))
+      go true = row.of-variable s (unpackedColumn n) at
       go false = row.of-bytes s at (widthIn n) 0
 
   pub of-planned-answer : (k : ℕ) → OfError (RowErrorAt (length s)) (plannedAnswer p s k)
@@ -95,7 +113,7 @@ module _ (p : Plan) (s : Bytes) where
           (pick t (ok rows.chapter) (pick u (jumped p s k >>= λ w. landed (plannedWord p k) s w >>= (λ f. ok (rows.field f))) (ok rows.null)))
       go true u = row.no-error
       go false true =
-          of-bind _ _ (of-bind _ _ (of-visits k (stopsTo p k) _) (λ _ _. row.no-error))
+          of-bind _ _ (of-bind _ _ (of-leaps (map byBit (stopsTo p k)) _) (λ _ _. row.no-error))
           (λ w _. of-bind _ _ (of-bind _ _ (of-field-in (plannedWord p k) (w .at)) (λ _ _. row.no-error)) (λ _ _. row.no-error))
       go false false = row.no-error
 
