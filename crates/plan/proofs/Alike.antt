@@ -18,7 +18,6 @@ use Rattle.wire.proofs.Pieces.{bad-ok}
 use Rattle.column.specs.declared.column.Column.{Column}
 use Rattle.plan.specs.declared.plan.Plan.{Plan}
 use Rattle.plan.specs.Plans.{planOf}
-use Rattle.plan.specs.Lent.{lent}
 use Rattle.plan.specs.Compare.{Compared}
 use Rattle.plan.proofs.plan.Plan.{the-type}
 
@@ -61,7 +60,7 @@ module _ (a b : Plan) where
   pub alike-end : {i : ℕ} (vs ws : List Val) → Is (row the-type) a vs → Is (row the-type) b ws → Alike a b i → 131 ≤ i → Tells true (a ≡ b)
   alike-end {i} vs ws x y h l =
       let n : length (a .numbers) ≡ 131 = plan-long a vs x in
-      yes (ap lent (ext-getD 0 (a .numbers) (b .numbers) (n ∙ sym (plan-long b ws y)) (λ k g. h .same k (omega (arith, n, g, l)))))
+      yes (ap (λ (l : List ℕ). record { numbers = l }) (ext-getD 0 (a .numbers) (b .numbers) (n ∙ sym (plan-long b ws y)) (λ k g. h .same k (omega (arith, n, g, l)))))
 
 -- The answer of a comparison with the plan that was made of the columns.
 module _ (p made : Plan) (cs : List Column) (r : Bool) (h : Tells r (p ≡ made)) (m : made ≡ planOf cs) where

@@ -1,301 +1,207 @@
--- Arrays of a plan that are filled along the columns.
+-- A plan that is filled along the columns.
 -- Assumes nothing.
-use Prim.Native.Nat.{ℕ, zero, suc, _+_, _≤_, _<_}
+use Prim.Native.Nat.{ℕ, suc, _+_, _*_, _-_, _/_, _%_, _^_, _≤_, _<_}
 use mathlib.Core.List.{List, [], _∷_, _++_, map, append-nil, append-assoc}
-use mathlib.Core.Bool.{Bool, true, false}
+use mathlib.Core.Bool.{Bool, true, false, true≢false}
 use mathlib.Core.Path.{_≡_, refl, sym, ap, _∙_}
+use native.Mathlib.Nat.{add-zero}
 use native.Mathlib.Numerals.{add-one}
 use native.Mathlib.Omega.{arith}
-use lib.ListN.{length, getD, set, take, replicate, length-append, length-map, List·getD-map}
-use lib.Seq.{take-all, ext-getD}
+use lib.ListN.{length, getD, set, drop, replicate, length-append, drop-of-length-le}
+use lib.Seq.{drop-cons}
+use lib.Pow.{pow-add, shl-shr}
+use lib.Dec.{eqb}
+use borrow.Author.Tests.{eqb-true, ne-eqb}
 use Rattle.wire.specs.Read.{pick}
 use Rattle.column.specs.declared.column.Column.{Column}
-use Rattle.column.specs.Columns.{isChapter, isNullable, isStop}
-use Rattle.column.specs.Layout.{mostColumns, padded, columnIn, columnsFrom}
-use Rattle.row.specs.Presence.{noColumn, one, nullables, Mark, marks}
-use Rattle.row.proofs.Laws.{padded-at}
+use Rattle.column.specs.Columns.{width, isChapter, isNullable, isStop}
+use Rattle.column.specs.Layout.{padded, columnIn, columnsFrom}
+use Rattle.column.specs.Stops.{stopOf, stopWord}
+use Rattle.column.proofs.Stops.{width-few, stop-chapter, no-stop}
+use Rattle.row.specs.Presence.{noColumn, one, presenceBytes, marks}
+use Rattle.row.specs.Leaps.{stopsFrom}
 use Rattle.row.proofs.Arrays.{length-from, column-from}
-use Rattle.plan.specs.Plans.{gapPast, gapsFrom, stopsFrom, stopsBefore, chapterBits}
+use Rattle.plan.specs.declared.plan.Plan.{Plan}
+use Rattle.plan.specs.Plans.{gapPast, numbersFrom, rowStops, firstStop, chapterMask, planOf}
+use Rattle.plan.specs.Packed.{packed, counted, laid}
+use Rattle.plan.proofs.Packed.{set-column, set-stop, set-counts}
+use Rattle.plan.proofs.Made.{one-few, past-few, map-few, mask-few}
 
--- Padded lists.
+-- The first i columns are in a plan's numbers: what is written, and what is left to do.
+pub record Filling (cs : List Column) (numbers : List ℕ) (gap bit stops first mask i : ℕ) : Type 0 where
+  pub columns : List ℕ
+  pub words : List ℕ
+  pub held : numbers ≡ laid columns words 0 0 0
+  pub written : length columns ≡ i
+  pub listed : length words ≡ stops
+  pub columns-left : columns ++ numbersFrom gap stops (marks bit (drop i cs)) ≡ numbersFrom (presenceBytes cs) 0 (marks 0 cs)
+  pub words-left : words ++ map stopWord (stopsFrom isNullable isStop gap (marks bit (drop i cs))) ≡ map stopWord (rowStops cs)
+  pub mask-left : mask + chapterMask (marks bit (drop i cs)) ≡ chapterMask (marks 0 cs)
+  pub first-left : pick (eqb stops 0) (firstStop i (drop i cs)) first ≡ firstStop 0 cs
+  pub first-none : stops ≡ 0 → first ≡ 0
+  pub gap-few : gap ≤ 8 + 16 * i
+  pub bit-few : bit ≤ i
+  pub stops-few : stops ≤ i
+  pub first-few : first ≤ 64
 
--- one number more behind a list
-padded-snoc : (m : ℕ) (l : List ℕ) (x : ℕ) → length l < m → set (padded m l) (length l) x ≡ padded m (l ++ (x ∷ []))
-unfolding padded
-padded-snoc zero l x h = absurd (omega arith)
-padded-snoc (suc m) [] x h = refl
-padded-snoc (suc m) (a ∷ l) x h = ap (λ (t : List ℕ). a ∷ t) (padded-snoc m l x (omega arith))
+-- none is
+pub fill-start : (cs : List Column) {map : ℕ} → length cs ≤ 64 → map ≡ presenceBytes cs → Filling cs (replicate 131 0) map 0 0 0 0 0
+unfolding laid padded
+fill-start cs h e =
+    record {
+      columns = [];
+      words = [];
+      held = refl;
+      written = refl;
+      listed = refl;
+      columns-left = rw e;
+      words-left = rw e;
+      mask-left = omega arith;
+      first-left = refl;
+      first-none = λ _. refl;
+      gap-few = omega (arith, map-few cs h);
+      bit-few = omega arith;
+      stops-few = omega arith;
+      first-few = omega arith;
+    }
 
--- no number yet
-padded-none : (m : ℕ) → replicate m 0 ≡ padded m []
-unfolding padded
-padded-none zero = refl
-padded-none (suc m) = ap (λ (t : List ℕ). 0 ∷ t) (padded-none m)
+-- one column more: its number is v, the next has bit b
+module _
+    (codes flags maxima : List ℕ) (n : ℕ) (few : n ≤ 64) {numbers : List ℕ} {gap bit stops first mask i : ℕ}
+    (f : Filling (columnsFrom n 0 codes flags maxima) numbers gap bit stops first mask i) (l : i < n) (c : Column) (e : c ≡ columnIn codes flags maxima i) (v : ℕ)
+    (d : v ≡ packed c (pick (isChapter c) 0 gap) bit stops) (t : Bool) (k : t ≡ isNullable c) (o : ℕ) (h : o ≡ one t) where
+  abbrev cs : List Column
+  cs = columnsFrom n 0 codes flags maxima
 
--- one number more of an array
-padded-suc : (m i : ℕ) (l : List ℕ) → i < m → set (padded m (padded i l)) i (getD l i 0) ≡ padded m (padded (suc i) l)
-unfolding padded
-padded-suc zero i l h = absurd (omega arith)
-padded-suc (suc m) zero [] h = refl
-padded-suc (suc m) zero (a ∷ l) h = refl
-padded-suc (suc m) (suc i) [] h = ap (λ (t : List ℕ). 0 ∷ t) (padded-suc m i [] (omega arith))
-padded-suc (suc m) (suc i) (a ∷ l) h = ap (λ (t : List ℕ). a ∷ t) (padded-suc m i l (omega arith))
+  within : i < length cs
+  within = omega (arith, length-from codes flags maxima n 0)
 
--- a padded list is as long as it was asked for
-pub length-padded : (n : ℕ) (l : List ℕ) → length (padded n l) ≡ n
-unfolding padded
-length-padded zero l = refl
-length-padded (suc n) [] = ap suc (length-padded n [])
-length-padded (suc n) (a ∷ l) = ap suc (length-padded n l)
+  over : o ≡ one (isNullable c)
+  over = h ∙ ap one k
 
--- The first i numbers of an array stand in another.
-pub record Copied (from : List ℕ) (n : ℕ) (array : List ℕ) (i : ℕ) : Type 0 where
-  pub below : i ≤ n
-  pub same : array ≡ padded mostColumns (padded i from)
+  left : drop i cs ≡ c ∷ drop (i + 1) cs
+  left = rw add-one (drop-cons cs i noColumn within ∙ rw (column-from codes flags maxima n i l, sym e))
 
-module _ (from : List ℕ) (n : ℕ) where
-  -- none is copied yet
-  pub copy-start : Copied from n (replicate mostColumns 0) 0
-  unfolding padded
-  copy-start = record { below = omega arith; same = padded-none mostColumns }
+  -- its number
+  number-written : set numbers i v ≡ laid (f .columns ++ (v ∷ [])) (f .words) 0 0 0
+  number-written = rw (f .held, sym (f .written)) (set-column (f .columns) (f .words) 0 0 0 v (omega (arith, f .written)))
 
-  -- one more
-  pub copy-next : {array : List ℕ} {i : ℕ} → n ≤ mostColumns → Copied from n array i → i < n → Copied from n (set array i (getD from i 0)) (i + 1)
-  copy-next {array} {i} h c l =
+  number-counted : length (f .columns ++ (v ∷ [])) ≡ i + 1
+  number-counted = rw length-append (omega (arith, f .written))
+
+  numbers-left :
+      (f .columns ++ (v ∷ [])) ++ numbersFrom (gapPast c gap) (stops + one (isStop c)) (marks (bit + o) (drop (i + 1) cs))
+      ≡ numbersFrom (presenceBytes cs) 0 (marks 0 cs)
+  unfolding numbersFrom marks
+  numbers-left = rw (append-assoc, d, over) (sym (rw left) ∙ f .columns-left)
+
+  -- its bit, where it is a nullable chapter
+  bit-left :
+      mask + (pick (isChapter c) (pick (isNullable c) (2 ^ (63 - bit)) 0) 0 + chapterMask (marks (bit + o) (drop (i + 1) cs)))
+      ≡ chapterMask (marks 0 cs)
+  unfolding chapterMask marks
+  bit-left = rw over (sym (rw left) ∙ f .mask-left)
+
+  bit-stop : (x : ℕ) → isStop c ≡ true → pick (isChapter c) x 0 ≡ 0
+  bit-stop x s = go (isChapter c) refl
+    where
+      go : (t : Bool) → isChapter c ≡ t → pick t x 0 ≡ 0
+      go true q = absurd (true≢false (sym s ∙ stop-chapter c q))
+      go false q = refl
+
+  bit-plain : (x : ℕ) → isStop c ≡ false → pick (isChapter c) (pick (isNullable c) x 0) 0 ≡ pick (isNullable c) x 0
+  bit-plain x s = go (isChapter c) refl
+    where
+      go : (t : Bool) → isChapter c ≡ t → pick t (pick (isNullable c) x 0) 0 ≡ pick (isNullable c) x 0
+      go true q = refl
+      go false q = sym (rw (no-stop c s q .0))
+
+  first-now : pick (eqb stops 0) (pick (isStop c) i (firstStop (i + 1) (drop (i + 1) cs))) first ≡ firstStop 0 cs
+  unfolding firstStop
+  first-now = rw add-one (sym (rw (left, add-one)) ∙ f .first-left)
+
+  -- a stop, whose number is w
+  pub fill-stop :
+      {r : Bool} → r ≡ isStop c → r ≡ true → (w : ℕ) → w ≡ stopWord (stopOf t c (gap % 65536) (bit % 64)) → {n : ℕ} → n ≡ pick (eqb stops 0) i first →
+      Filling cs (set (set numbers i v) (64 + stops) w) 0 (bit + o) (stops + 1) n mask (i + 1)
+  unfolding stopsFrom marks
+  fill-stop x z w q {n} y =
+      let s : isStop c ≡ true = sym x ∙ z in
+      let g : gap % 65536 ≡ gap = omega (arith, f .gap-few) in
+      let b : bit % 64 ≡ bit = omega (arith, f .bit-few) in
       record {
-        below = omega arith;
-        same =
-            ap (λ (a : List ℕ). set a i (getD from i 0)) (c .same)
-            ∙ padded-suc mostColumns i from (omega arith)
-            ∙ ap (λ (j : ℕ). padded mostColumns (padded j from)) (sym (add-one i));
+        columns = f .columns ++ (v ∷ []);
+        words = f .words ++ (w ∷ []);
+        held = rw (number-written, sym (f .listed)) (set-stop (f .columns ++ (v ∷ [])) (f .words) 0 0 0 w (omega (arith, f .listed, f .stops-few)));
+        written = number-counted;
+        listed = rw length-append (omega (arith, f .listed));
+        columns-left = rw s at numbers-left;
+        words-left = rw (append-assoc, q, g, b, k, over) (sym (rw (left, s)) ∙ f .words-left);
+        mask-left = omega (arith, bit-left, bit-stop (pick (isNullable c) (2 ^ (63 - bit)) 0) s);
+        first-left = rw (ne-eqb (stops + 1) 0 (λ z. omega (arith, z)), y) (rw s at first-now);
+        first-none = λ z. absurd (omega (arith, z));
+        gap-few = omega arith;
+        bit-few = omega (arith, h, f .bit-few, one-few t);
+        stops-few = omega (arith, f .stops-few);
+        first-few = rw y (pick-few (eqb stops 0));
+      }
+    where
+      pick-few : (t : Bool) → pick t i first ≤ 64
+      pick-few true = omega arith
+      pick-few false = omega (arith, f .first-few)
+
+  -- any other, whose bit is m
+  pub mask-room : {r : Bool} → r ≡ isStop c → r ≡ false → {m : ℕ} → m ≡ pick t (2 ^ (63 - bit)) 0 → mask + m < 18446744073709551616
+  mask-room x z q =
+      rw (q, k) (omega (arith, bit-left, bit-plain (2 ^ (63 - bit)) (sym x ∙ z), mask-few cs (omega (arith, length-from codes flags maxima n 0))))
+
+  pub fill-plain :
+      {r : Bool} → r ≡ isStop c → r ≡ false → {m size : ℕ} → m ≡ pick t (2 ^ (63 - bit)) 0 → size ≡ width c →
+      Filling cs (set numbers i v) (gap + size) (bit + o) stops first (mask + m) (i + 1)
+  unfolding stopsFrom marks
+  fill-plain x z {m} {size} q y =
+      let s : isStop c ≡ false = sym x ∙ z in
+      record {
+        columns = f .columns ++ (v ∷ []);
+        words = f .words;
+        held = number-written;
+        written = number-counted;
+        listed = f .listed;
+        columns-left = rw y (rw (s, add-zero) at numbers-left);
+        words-left = rw (y, over) (sym (rw (left, s)) ∙ f .words-left);
+        mask-left = rw (q, k) (omega (arith, bit-left, bit-plain (2 ^ (63 - bit)) s));
+        first-left = rw s at first-now;
+        first-none = f .first-none;
+        gap-few = omega (arith, y, f .gap-few, width-few c);
+        bit-few = omega (arith, h, f .bit-few, one-few t);
+        stops-few = omega (arith, f .stops-few);
+        first-few = f .first-few;
       }
 
-  -- all
-  pub copy-end : {array : List ℕ} {i : ℕ} → Copied from n array i → n ≤ i → array ≡ padded mostColumns (padded n from)
-  copy-end {array} {i} c l =
-      let z : i ≡ n = omega (arith, c .below) in
-      c .same ∙ ap (λ (j : ℕ). padded mostColumns (padded j from)) z
+abbrev Listed : List Column → List ℕ
+Listed cs = map stopWord (rowStops cs)
 
--- A list that is made along columns: what each one adds by a number that is carried from column to column.
-module _ (out : Column → ℕ → List ℕ) (next : Column → ℕ → ℕ) where
-  unfoldable pub gathered : ℕ → List Column → List ℕ
-  gathered s [] = []
-  gathered s (c ∷ cs) = out c s ++ gathered (next c s) cs
-
--- the number carried up to column i
-unfoldable pub carried : (Column → ℕ → ℕ) → ℕ → List Column → ℕ → ℕ
-carried next s cs zero = s
-carried next s [] (suc i) = s
-carried next s (c ∷ cs) (suc i) = carried next (next c s) cs i
-
-module _ (out : Column → ℕ → List ℕ) (next : Column → ℕ → ℕ) where
-  -- the list of one column more
-  gathered-suc :
-      (s : ℕ) (cs : List Column) (i : ℕ) → i < length cs →
-      gathered out next s (take (suc i) cs) ≡ gathered out next s (take i cs) ++ out (getD cs i noColumn) (carried next s cs i)
-  unfolding gathered carried
-  gathered-suc s [] i h = absurd (omega arith)
-  gathered-suc s (c ∷ cs) zero h = append-nil (out c s)
-  gathered-suc s (c ∷ cs) (suc i) h =
-      ap (λ (t : List ℕ). out c s ++ t) (gathered-suc (next c s) cs i (omega arith))
-      ∙ sym (append-assoc (out c s) (gathered out next (next c s) (take i cs)) (out (getD cs i noColumn) (carried next (next c s) cs i)))
-
--- what is carried past one column more
-carried-suc :
-    (next : Column → ℕ → ℕ) (s : ℕ) (cs : List Column) (i : ℕ) → i < length cs → carried next s cs (suc i) ≡ next (getD cs i noColumn) (carried next s cs i)
-unfolding carried
-carried-suc next s [] i h = absurd (omega arith)
-carried-suc next s (c ∷ cs) zero h = refl
-carried-suc next s (c ∷ cs) (suc i) h = carried-suc next (next c s) cs i (omega arith)
-
--- The list of the first i columns stands in an array, `count` numbers, and the number carried is this one.
-pub record Filling (out : Column → ℕ → List ℕ) (next : Column → ℕ → ℕ) (start : ℕ) (cs : List Column) (array : List ℕ) (count number i : ℕ) : Type 0 where
-  pub below : i ≤ length cs
-  pub fewer : count ≤ i
-  pub counts : count ≡ length (gathered out next start (take i cs))
-  pub same : array ≡ padded mostColumns (gathered out next start (take i cs))
-  pub carries : number ≡ carried next start cs i
-
-module _ (out : Column → ℕ → List ℕ) (next : Column → ℕ → ℕ) (start : ℕ) (codes flags maxima : List ℕ) (n : ℕ) where
-  -- no column yet
-  pub fill-start : Filling out next start (columnsFrom n 0 codes flags maxima) (replicate mostColumns 0) 0 start 0
-  unfolding gathered carried
-  fill-start = record { below = omega arith; fewer = omega arith; counts = refl; same = padded-none mostColumns; carries = refl }
-
-  module _
-      {array : List ℕ} {count s i : ℕ} (h : n ≤ mostColumns) (f : Filling out next start (columnsFrom n 0 codes flags maxima) array count s i) (l : i < n)
-      (c : Column) (e : c ≡ columnIn codes flags maxima i) {t : ℕ} (g : t ≡ next c s)
-    where
-      -- what the column adds
-      grown : {x : List ℕ} → out c s ≡ x → gathered out next start (take (i + 1) (columnsFrom n 0 codes flags maxima)) ≡ gathered out next start (take i (columnsFrom n 0 codes flags maxima)) ++ x
-      grown {x} k =
-          let cs : List Column = columnsFrom n 0 codes flags maxima in
-          let d : getD cs i noColumn ≡ c = column-from codes flags maxima n i l ∙ sym e in
-          ap (λ (j : ℕ). gathered out next start (take j cs)) (add-one i)
-          ∙ gathered-suc out next start cs i (omega (arith, length-from codes flags maxima n 0, l))
-          ∙ ap (λ (t : List ℕ). gathered out next start (take i cs) ++ t)
-          (ap (λ (d : Column). out d (carried next start cs i)) d ∙ ap (out c) (sym (f .carries)) ∙ k)
-
-      -- what is carried on
-      passed : t ≡ carried next start (columnsFrom n 0 codes flags maxima) (i + 1)
-      passed =
-          let cs : List Column = columnsFrom n 0 codes flags maxima in
-          let d : c ≡ getD cs i noColumn = e ∙ sym (column-from codes flags maxima n i l) in
-          g ∙ ap (next c) (f .carries) ∙ ap (λ (d : Column). next d (carried next start cs i)) d
-          ∙ sym (carried-suc next start cs i (omega (arith, length-from codes flags maxima n 0, l)))
-          ∙ ap (carried next start cs) (sym (add-one i))
-
-      -- a column that adds one number
-      pub fill-put : (x : ℕ) → out c s ≡ x ∷ [] → Filling out next start (columnsFrom n 0 codes flags maxima) (set array count x) (count + 1) t (i + 1)
-      fill-put x k =
-          let old : List ℕ = gathered out next start (take i (columnsFrom n 0 codes flags maxima)) in
-          record {
-            below = omega (arith, length-from codes flags maxima n 0, l);
-            fewer = omega (arith, f .fewer);
-            counts = ap (λ (m : ℕ). m + 1) (f .counts) ∙ sym (length-append old (x ∷ [])) ∙ sym (ap length (grown k));
-            same =
-                ap (λ (a : List ℕ). set a count x) (f .same)
-                ∙ ap (λ (m : ℕ). set (padded mostColumns old) m x) (f .counts)
-                ∙ padded-snoc mostColumns old x (omega (arith, f .counts, f .fewer, l, h))
-                ∙ sym (ap (padded mostColumns) (grown k));
-            carries = passed;
-          }
-
-      -- a column that adds none
-      pub fill-skip : out c s ≡ [] → Filling out next start (columnsFrom n 0 codes flags maxima) array count t (i + 1)
-      fill-skip k =
-          let old : List ℕ = gathered out next start (take i (columnsFrom n 0 codes flags maxima)) in
-          let z : gathered out next start (take (i + 1) (columnsFrom n 0 codes flags maxima)) ≡ old = grown k ∙ append-nil old in
-          record {
-            below = omega (arith, length-from codes flags maxima n 0, l);
-            fewer = omega (arith, f .fewer);
-            counts = f .counts ∙ sym (ap length z);
-            same = f .same ∙ sym (ap (padded mostColumns) z);
-            carries = passed;
-          }
-
-  module _ {array : List ℕ} {count s i : ℕ} (f : Filling out next start (columnsFrom n 0 codes flags maxima) array count s i) (l : n ≤ i) where
-    -- behind the last column the list is whole
-    all : gathered out next start (take i (columnsFrom n 0 codes flags maxima)) ≡ gathered out next start (columnsFrom n 0 codes flags maxima)
-    all = ap (gathered out next start) (take-all i (columnsFrom n 0 codes flags maxima) (omega (arith, length-from codes flags maxima n 0, l)))
-
-    -- what the array holds then
-    pub fill-end : array ≡ padded mostColumns (gathered out next start (columnsFrom n 0 codes flags maxima))
-    fill-end = f .same ∙ ap (padded mostColumns) all
-
-    -- how many numbers
-    pub fill-count : count ≡ length (gathered out next start (columnsFrom n 0 codes flags maxima))
-    fill-count = f .counts ∙ ap length all
-
-    -- what was carried
-    pub fill-carried : s ≡ carried next start (columnsFrom n 0 codes flags maxima) (length (columnsFrom n 0 codes flags maxima))
-    fill-carried =
-        let z : i ≡ length (columnsFrom n 0 codes flags maxima) = omega (arith, length-from codes flags maxima n 0, l, f .below) in
-        f .carries ∙ ap (carried next start (columnsFrom n 0 codes flags maxima)) z
-
--- The lists of a plan are made so.
-
--- each column adds the number carried
-abbrev pub ownNumber : Column → ℕ → List ℕ
-ownNumber c s = s ∷ []
-
--- each column adds its gap
-abbrev pub gapAdded : Column → ℕ → List ℕ
-gapAdded c gap = pick (isChapter c) 0 gap ∷ []
-
--- the bit behind a column
-abbrev pub bitPast : Column → ℕ → ℕ
-bitPast c b = b + one (isNullable c)
-
--- the stops up to a column
-abbrev pub stopPast : Column → ℕ → ℕ
-stopPast c n = pick (isStop c) (suc n) n
-
--- a stop adds its number
-abbrev pub stopAdded : Column → ℕ → List ℕ
-stopAdded c i = pick (isStop c) (i ∷ []) []
-
--- the next column's number
-abbrev pub numberPast : Column → ℕ → ℕ
-numberPast c i = suc i
-
--- a nullable chapter adds its bit
-abbrev pub markAdded : Column → ℕ → List ℕ
-markAdded c b = pick (pick (isChapter c) (isNullable c) false) (b ∷ []) []
-
--- the gaps
-pub gaps-gathered : (g : ℕ) (cs : List Column) → gathered gapAdded gapPast g cs ≡ gapsFrom g cs
-unfolding gathered gapsFrom
-gaps-gathered g [] = refl
-gaps-gathered g (c ∷ cs) = ap (λ (t : List ℕ). pick (isChapter c) 0 g ∷ t) (gaps-gathered (gapPast c g) cs)
-
--- the bits
-pub bits-gathered : (b : ℕ) (cs : List Column) → gathered ownNumber bitPast b cs ≡ map (λ (m : Mark). m .bit) (marks b cs)
-unfolding gathered marks
-bits-gathered b [] = refl
-bits-gathered b (c ∷ cs) = ap (λ (t : List ℕ). b ∷ t) (bits-gathered (bitPast c b) cs)
-
--- the stops before each column
-pub before-gathered : (n : ℕ) (cs : List Column) → gathered ownNumber stopPast n cs ≡ stopsBefore n cs
-unfolding gathered stopsBefore
-before-gathered n [] = refl
-before-gathered n (c ∷ cs) = ap (λ (t : List ℕ). n ∷ t) (before-gathered (stopPast c n) cs)
-
--- the stops
-pub stops-gathered : (i : ℕ) (cs : List Column) → gathered stopAdded numberPast i cs ≡ stopsFrom i cs
-unfolding gathered stopsFrom
-stops-gathered i [] = refl
-stops-gathered i (c ∷ cs) = go (isStop c) (stops-gathered (suc i) cs)
+-- all are
+pub fill-end :
+    (cs : List Column) {numbers : List ℕ} {gap bit stops first mask i map n : ℕ} → Filling cs numbers gap bit stops first mask i → length cs ≤ i → n ≡ length cs →
+    map ≡ presenceBytes cs → record { numbers = set (set (set numbers 128 (n + 256 * first)) 129 map) 130 mask } ≡ planOf cs
+unfolding planOf counted numbersFrom stopsFrom marks chapterMask firstStop
+fill-end cs {numbers} {gap} {bit} {stops} {first} {mask} {i} {map} {n} f l y e =
+    let none : drop i cs ≡ [] = drop-of-length-le cs l in
+    let columns : f .columns ≡ numbersFrom (presenceBytes cs) 0 (marks 0 cs) = sym (append-nil (f .columns)) ∙ sym (rw none) ∙ f .columns-left in
+    let words : f .words ≡ Listed cs = sym (append-nil (f .words)) ∙ sym (rw none) ∙ f .words-left in
+    let chapters : mask ≡ chapterMask (marks 0 cs) = sym (add-zero mask) ∙ sym (rw none) ∙ f .mask-left in
+    let start : first ≡ firstStop 0 cs = go (eqb stops 0) refl (sym (rw none) ∙ f .first-left) in
+    let all : set (set (set numbers 128 (n + 256 * first)) 129 map) 130 mask ≡ laid (f .columns) (f .words) (n + 256 * first) map mask =
+    rw (f .held) (set-counts (f .columns) (f .words) (n + 256 * first) map mask) in
+    rw all (rw (columns, words, y, e, chapters, start))
   where
-    go :
-        (t : Bool) → gathered stopAdded numberPast (suc i) cs ≡ stopsFrom (suc i) cs →
-        pick t (i ∷ []) [] ++ gathered stopAdded numberPast (suc i) cs ≡ pick t (i ∷ stopsFrom (suc i) cs) (stopsFrom (suc i) cs)
-    go true e = ap (λ (l : List ℕ). i ∷ l) e
-    go false e = e
+    go : (t : Bool) → eqb stops 0 ≡ t → pick t 0 first ≡ firstStop 0 cs → first ≡ firstStop 0 cs
+    go true q r = f .first-none (eqb-true stops 0 q) ∙ r
+    go false q r = r
 
--- the bits of the nullable chapters
-pub marked-gathered : (b : ℕ) (cs : List Column) → gathered markAdded bitPast b cs ≡ chapterBits (marks b cs)
-unfolding gathered marks chapterBits
-marked-gathered b [] = refl
-marked-gathered b (c ∷ cs) = go (isChapter c) (isNullable c) (marked-gathered (bitPast c b) cs)
-  where
-    go :
-        (k t : Bool) {l m : List ℕ} → l ≡ m →
-        pick (pick k t false) (b ∷ []) [] ++ l ≡ pick k (pick t (b ∷ m) m) m
-    go true true e = ap (λ (l : List ℕ). b ∷ l) e
-    go true false e = e
-    go false t e = e
-
--- the bit behind the last column
-bits-from : (b : ℕ) (cs : List Column) → carried bitPast b cs (length cs) ≡ b + nullables cs
-unfolding carried nullables
-bits-from b [] = omega arith
-bits-from b (c ∷ cs) = omega (arith, bits-from (bitPast c b) cs)
-
--- it is the number of nullable columns
-pub bits-all : (cs : List Column) → carried bitPast 0 cs (length cs) ≡ nullables cs
-bits-all cs = omega (arith, bits-from 0 cs)
-
--- one stop more, or none
-pub stop-on : (c : Column) (n : ℕ) {o : ℕ} → o ≡ one (isStop c) → n + o ≡ stopPast c n
-stop-on c n {o} e = ap (λ (o : ℕ). n + o) e ∙ go (isStop c)
-  where
-    go : (t : Bool) → n + one t ≡ pick t (suc n) n
-    go true = omega arith
-    go false = omega arith
-
--- The first n numbers of an array of the columns are what the first n columns hold there.
-pub numbers-from :
-    (codes flags maxima : List ℕ) (g : Column → ℕ) (from : List ℕ) → g noColumn ≡ 0 → ((i : ℕ) → g (columnIn codes flags maxima i) ≡ getD from i 0) →
-    (n : ℕ) → padded n from ≡ map g (columnsFrom n 0 codes flags maxima)
-numbers-from codes flags maxima g from z e n =
-    let cs : List Column = columnsFrom n 0 codes flags maxima in
-    let m : length (map g cs) ≡ n = length-map cs g ∙ length-from codes flags maxima n 0 in
-    ext-getD 0 (padded n from) (map g cs) (length-padded n from ∙ sym m)
-    (λ i h.
-    let l : i < n = omega (arith, length-padded n from, h) in
-    padded-at n from i l
-    ∙ sym (e i)
-    ∙ sym (ap g (column-from codes flags maxima n i l))
-    ∙ sym (List·getD-map g cs i noColumn)
-    ∙ ap (getD (map g cs) i) z)
+-- the bit of a chapter, as code makes it
+pub power-down : (b : ℕ) → b < 64 → 9223372036854775808 / 2 ^ b ≡ 2 ^ (63 - b)
+power-down b h =
+    let e : 63 ≡ 63 - b + b = omega arith in
+    ap (λ (k : ℕ). 2 ^ k / 2 ^ b) e ∙ ap (λ (p : ℕ). p / 2 ^ b) (pow-add 2 (63 - b) b) ∙ shl-shr (2 ^ (63 - b)) b

@@ -1,8 +1,7 @@
 pub mod Packed
-pub mod Laws
-pub mod Arrays
-pub mod Jump
+pub mod Made
 pub mod AnyPlan
+pub mod Jump
 pub mod Plans
 pub mod Places
 pub mod Answers
@@ -10,7 +9,5 @@ pub mod Inside
 pub mod Handled
 pub mod Held
 pub mod Fill
-pub mod Sizes
-pub mod Made
 pub mod Alike
 pub mod Named

@@ -193,6 +193,9 @@ mask-small n b (c ∷ cs) e h = go (isNullable c) (isChapter c) n e h (λ n b. m
     go false true n e h r = omega (arith, r n (b + 0) (omega arith) (omega arith))
     go false false n e h r = omega (arith, r n (b + 0) (omega arith) (omega arith))
 
+pub mask-few : (cs : List Column) → length cs ≤ 64 → chapterMask (marks 0 cs) < 18446744073709551616
+mask-few cs h = mask-small 64 0 cs refl (omega (arith, nullables-few cs))
+
 -- one bit, with n behind it, of a number that is small below it
 unset-next :
     (row : Bytes) (n b x q : ℕ) (t : Bool) → suc n + b ≡ 64 → x < 2 ^ n → q % 2 ≡ one t →

@@ -29,29 +29,29 @@ module _ (c : Column) (hc : c .code < 256) (hf : c .flags < 256) (hm : c .maximu
         ap unpackedColumn e ∙ column-in c hc hf hm (gap + 4096 * bit + 262144 * before + 16777216 * width c)
 
     pub packed-gap : gapIn (packed c gap bit before) ≡ gap
-    unfolding packed gapIn
+    unfolding packed
     packed-gap = omega (arith, packed-small)
 
     pub packed-bit : bitIn (packed c gap bit before) ≡ bit
-    unfolding packed bitIn
+    unfolding packed
     packed-bit = omega (arith, packed-small)
 
     pub packed-before : beforeIn (packed c gap bit before) ≡ before
-    unfolding packed beforeIn
+    unfolding packed
     packed-before = omega (arith, packed-small)
 
     pub packed-width : widthIn (packed c gap bit before) ≡ width c
-    unfolding packed widthIn
+    unfolding packed
     packed-width = omega (arith, packed-small)
 
 -- the two counts
 module _ (count first : ℕ) (h : count < 256) where
   pub counted-count : countIn (counted count first) ≡ count
-  unfolding counted countIn
+  unfolding counted
   counted-count = omega arith
 
   pub counted-first : firstIn (counted count first) ≡ first
-  unfolding counted firstIn
+  unfolding counted
   counted-first = omega arith
 
 -- Where the numbers stand.

@@ -14,16 +14,16 @@ packed c gap bit before =
     packedColumn c + 4294967296 * gap + 17592186044416 * bit + 1125899906842624 * before + 72057594037927936 * width c
 
 -- and its parts again, behind the column itself
-unfoldable pub gapIn : ℕ → ℕ
+abbrev pub gapIn : ℕ → ℕ
 gapIn n = n / 4294967296 % 4096
 
-unfoldable pub bitIn : ℕ → ℕ
+abbrev pub bitIn : ℕ → ℕ
 bitIn n = n / 17592186044416 % 64
 
-unfoldable pub beforeIn : ℕ → ℕ
+abbrev pub beforeIn : ℕ → ℕ
 beforeIn n = n / 1125899906842624 % 64
 
-unfoldable pub widthIn : ℕ → ℕ
+abbrev pub widthIn : ℕ → ℕ
 widthIn n = n / 72057594037927936
 
 -- How many columns there are, and the number of the first stop.
@@ -31,10 +31,10 @@ unfoldable pub counted : (count first : ℕ) → ℕ
 counted count first = count + 256 * first
 
 -- and its parts again
-unfoldable pub countIn : ℕ → ℕ
+abbrev pub countIn : ℕ → ℕ
 countIn n = n % 256
 
-unfoldable pub firstIn : ℕ → ℕ
+abbrev pub firstIn : ℕ → ℕ
 firstIn n = n / 256
 
 -- All numbers: one for each column, one for each stop; then three: the counts, the bytes of the presence map, the bits of the nullable

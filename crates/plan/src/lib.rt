@@ -1,9 +1,8 @@
 // Column plans: what a plan holds of a schema's columns, and the look-up through it, which jumps from stop to stop.
 ghost use mathlib.Core.Path.{_≡_};
-ghost use Prim.Native.Nat.{_≤_, _<_};
+ghost use Prim.Native.Nat.{_<_};
 ghost use Rattle.column.specs.Layout.{columnIn};
-ghost use Rattle.row.specs.Presence.{one};
-ghost use Rattle.plan.specs.Packed.{unpacked, gapIn, bitIn, widthIn};
+ghost use Rattle.plan.specs.Packed.{gapIn, bitIn, beforeIn, widthIn, countIn, firstIn};
 use column::column::Column;
 
 pub mod compare;
@@ -13,15 +12,26 @@ pub mod look;
 pub mod make;
 pub mod plan;
 
-// 1 where so, else 0.
-fn one(so: bool) -> usize
-    ensures { λ r. ⌜ (r ≡ one so) × (r ≤ 1) ⌝ }
-{
-    if so {
-        return 1;
-    }
-    0
-}
+// Where the numbers of the stops start, and the last three: the counts, the bytes of the presence map, the bits of nullable chapters.
+const STOPS: usize = 64;
+
+const COUNTS: usize = 128;
+
+const MAP: usize = 129;
+
+const CHAPTERS: usize = 130;
+
+// The places of a column's gap, its bit, the stops before it and its width in its number.
+const GAP: usize = 4_294_967_296;
+
+const BIT: usize = 17_592_186_044_416;
+
+const BEFORE: usize = 1_125_899_906_842_624;
+
+const WIDTH: usize = 72_057_594_037_927_936;
+
+// The place of the first stop's number in the counts.
+const FIRST: usize = 256;
 
 // Column `i` of the arrays of a schema's columns.
 fn column_of<'a>(
@@ -40,34 +50,44 @@ fn column_of<'a>(
     }
 }
 
-// The column in a plan's number.
-fn column_in(word: usize) -> Column
-    ensures { λ r. ⌜ r ≡ unpacked word ⌝ }
-{
-    Column {
-        code: (word % 256) as u8,
-        flags: (word / 256 % 256) as u8,
-        maximum: (word / 65536 % 65536) as u16,
-    }
-}
-
-// Its gap.
+// The gap in a column's number.
 fn gap_in(word: usize) -> usize
-    ensures { λ r. ⌜ (r ≡ gapIn word) × (r < 65536) ⌝ }
+    ensures { λ r. ⌜ (r ≡ gapIn word) × (r < 4096) ⌝ }
 {
-    word / 4294967296 % 65536
+    word / GAP % 4096
 }
 
-// Its bit in the presence map.
+// The column's bit in the presence map.
 fn bit_in(word: usize) -> usize
-    ensures { λ r. ⌜ (r ≡ bitIn word) × (r < 256) ⌝ }
+    ensures { λ r. ⌜ (r ≡ bitIn word) × (r < 64) ⌝ }
 {
-    word / 281474976710656 % 256
+    word / BIT % 64
+}
+
+// How many stops stand before it.
+fn before_in(word: usize) -> usize
+    ensures { λ r. ⌜ (r ≡ beforeIn word) × (r < 64) ⌝ }
+{
+    word / BEFORE % 64
 }
 
 // Its width.
 fn width_in(word: usize) -> usize
     ensures { λ r. ⌜ (r ≡ widthIn word) × (r < 256) ⌝ }
 {
-    word / 72057594037927936
+    word / WIDTH
+}
+
+// How many columns there are, by the counts.
+fn count_in(counts: usize) -> usize
+    ensures { λ r. ⌜ (r ≡ countIn counts) × (r < 256) ⌝ }
+{
+    counts % FIRST
+}
+
+// The number of the first stop.
+fn first_in(counts: usize) -> usize
+    ensures { λ r. ⌜ r ≡ firstIn counts ⌝ }
+{
+    counts / FIRST
 }
