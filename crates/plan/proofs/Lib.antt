@@ -1,5 +1,6 @@
 pub mod Packed
 pub mod Made
+pub mod Laws
 pub mod AnyPlan
 pub mod Jump
 pub mod Plans
