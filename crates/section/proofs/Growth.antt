@@ -1,240 +1,166 @@
--- Steps, forms and words that are made column by column.
+-- Words and forms that are made column by column, and of all schemas.
 -- Assumes nothing.
-use Prim.Native.Nat.{ℕ, zero, suc, _+_, _*_, _≤_, _<_}
+use Prim.Native.Nat.{ℕ, zero, suc, _+_, _*_, _%_, _≤_, _<_}
 use mathlib.Core.Path.{_≡_, refl, sym, ap, _∙_}
 use mathlib.Core.Logic.{_⊎_, inl, inr}
-use mathlib.Core.List.{List, [], _∷_, _++_, map, append-nil}
+use mathlib.Core.List.{List, [], _∷_, _++_, append-nil}
 use mathlib.Core.Bool.{Bool, true, false}
 use native.Mathlib.Numerals.{add-one}
 use native.Mathlib.Omega.{arith}
 use lib.Dec.{ltb}
 use borrow.Author.Tests.{ltb-true, ltb-false}
-use lib.ListN.{length, getD, set, take, length-append, length-map, length-set, List·getD-map, List·getD-append}
-use lib.Seq.{take-all, getD-set-same, getD-set-other, getD-append-seam}
-use Rattle.wire.specs.Read.{pick}
+use borrow.Author.Count.{below-none, below-more}
+use lib.ListN.{length, getD, set, take, length-append, length-set, length-take, List·getD-append}
+use lib.Seq.{take-all, take-suc, getD-set-same, getD-set-other, getD-append-seam}
 use Rattle.wire.specs.Bits.{mapBytes}
 use Rattle.column.specs.declared.column.Column.{Column}
 use Rattle.column.specs.Columns.{width, isNullable, isStop}
+use Rattle.column.specs.Stops.{Stop, noStop, stopOf, stopWord, stopIn}
 use Rattle.column.proofs.Stops.{width-few}
-use Rattle.row.specs.Presence.{noColumn, one, presenceBytes, Mark, mark, noMark, marks, bitOf}
+use Rattle.column.proofs.StopLaws.{stop-in, stop-fits}
+use Rattle.row.specs.Presence.{noColumn, one, nullables, presenceBytes, Mark, mark, noMark, marks, bitOf}
+use Rattle.row.specs.Leaps.{stopsFrom, tailFrom}
 use Rattle.row.proofs.Laws.{bit-zero, bit-next, bit-all, length-marks, mark-at, map-few}
-use Rattle.schema.specs.Schemas.{entry, asColumn, Schema, schema, columnCount}
-use Rattle.schema.specs.Table.{startIn, countIn, schemaSlot, entryIn, entriesIn, schemaIn, schemasIn}
-use Rattle.schema.proofs.TableSays.{entries-length, entries-at, schemas-in-length, schemas-in-at}
-use Rattle.section.specs.Steps.{Step, stepTo, noStep, stepsFrom, tailFrom}
-use Rattle.section.specs.Shapes.{wordOf, formOf, firstIn, stepsIn, mapIn, tailIn, Says, SayAll, SaysColumn, updateWords, slotColumns, rowSteps, Formed, Sound, Shaped, Added, AllUpdates, AllForms}
-use Rattle.section.proofs.Words.{word-column, word-gap, word-bit, word-width, form-first, form-steps, form-map, form-tail}
-
--- One column more.
-
-module _ (stop : Column → Bool) where
-  -- its step, where it is a stop
-  steps-suc :
-      (g : ℕ) (ms : List Mark) (i : ℕ) → i < length ms →
-      stepsFrom stop g (take (suc i) ms)
-      ≡ stepsFrom stop g (take i ms) ++ pick (stop (getD ms i noMark .column)) (stepTo (tailFrom stop g (take i ms)) (getD ms i noMark) ∷ []) []
-  unfolding stepsFrom tailFrom
-  steps-suc g [] i h = absurd (omega arith)
-  steps-suc g (m ∷ ms) zero h = refl
-  steps-suc g (m ∷ ms) (suc i) h = go (stop (m .column)) (steps-suc 0 ms i (omega arith)) (steps-suc (g + width (m .column)) ms i (omega arith))
-    where
-      more : ℕ → List Step
-      more tail = pick (stop (getD ms i noMark .column)) (stepTo tail (getD ms i noMark) ∷ []) []
-
-      go :
-          (t : Bool) → stepsFrom stop 0 (take (suc i) ms) ≡ stepsFrom stop 0 (take i ms) ++ more (tailFrom stop 0 (take i ms)) →
-          stepsFrom stop (g + width (m .column)) (take (suc i) ms)
-          ≡ stepsFrom stop (g + width (m .column)) (take i ms) ++ more (tailFrom stop (g + width (m .column)) (take i ms)) →
-          pick t (stepTo g m ∷ stepsFrom stop 0 (take (suc i) ms)) (stepsFrom stop (g + width (m .column)) (take (suc i) ms))
-          ≡ pick t (stepTo g m ∷ stepsFrom stop 0 (take i ms)) (stepsFrom stop (g + width (m .column)) (take i ms))
-          ++ more (pick t (tailFrom stop 0 (take i ms)) (tailFrom stop (g + width (m .column)) (take i ms)))
-      go true a b = ap (λ (l : List Step). stepTo g m ∷ l) a
-      go false a b = b
-
-  -- the bytes behind the last step
-  tail-suc :
-      (g : ℕ) (ms : List Mark) (i : ℕ) → i < length ms →
-      tailFrom stop g (take (suc i) ms)
-      ≡ pick (stop (getD ms i noMark .column)) 0 (tailFrom stop g (take i ms) + width (getD ms i noMark .column))
-  unfolding tailFrom
-  tail-suc g [] i h = absurd (omega arith)
-  tail-suc g (m ∷ ms) zero h = refl
-  tail-suc g (m ∷ ms) (suc i) h = go (stop (m .column)) (tail-suc 0 ms i (omega arith)) (tail-suc (g + width (m .column)) ms i (omega arith))
-    where
-      more : ℕ → ℕ
-      more tail = pick (stop (getD ms i noMark .column)) 0 (tail + width (getD ms i noMark .column))
-
-      go :
-          (t : Bool) → tailFrom stop 0 (take (suc i) ms) ≡ more (tailFrom stop 0 (take i ms)) →
-          tailFrom stop (g + width (m .column)) (take (suc i) ms) ≡ more (tailFrom stop (g + width (m .column)) (take i ms)) →
-          pick t (tailFrom stop 0 (take (suc i) ms)) (tailFrom stop (g + width (m .column)) (take (suc i) ms))
-          ≡ more (pick t (tailFrom stop 0 (take i ms)) (tailFrom stop (g + width (m .column)) (take i ms)))
-      go true a b = a
-      go false a b = b
+use Rattle.row.proofs.Leap.{stops-append, tail-append, stops-few, update-stops, update-stop}
+use Rattle.schema.specs.Schemas.{asColumn, Schema, schema, columnCount}
+use Rattle.schema.specs.Table.{startIn, countIn, schemaSlot, entryIn, schemaIn, schemasIn}
+use Rattle.schema.proofs.TableSays.{entries-length, schemas-in-length, schemas-in-at}
+use Rattle.section.specs.Shapes.{formOf, firstIn, stopsIn, mapIn, tailIn, alwaysIn, SayAll, updateWords, slotColumns, Formed, Sound, Shaped, Added, Updated}
+use Rattle.section.specs.Ways.{dataStops}
+use Rattle.section.specs.Maps.{AllMasked, MasksAdded}
+use Rattle.section.proofs.Forms.{form-first, form-stops, form-map, form-tail, form-always}
+use Rattle.section.proofs.Slots.{length-slots}
+use Rattle.section.proofs.MaskLaws.{masks-next}
 
 pub one-most : (b : Bool) → one b ≤ 1
 one-most true = omega arith
 one-most false = omega arith
 
--- no more steps than columns
-steps-few : (stop : Column → Bool) (g : ℕ) (ms : List Mark) → length (stepsFrom stop g ms) ≤ length ms
-unfolding stepsFrom
-steps-few stop g [] = omega arith
-steps-few stop g (m ∷ ms) = go (stop (m .column)) (steps-few stop 0 ms) (steps-few stop (g + width (m .column)) ms)
-  where
-    go :
-        (t : Bool) → length (stepsFrom stop 0 ms) ≤ length ms → length (stepsFrom stop (g + width (m .column)) ms) ≤ length ms →
-        length (pick t (stepTo g m ∷ stepsFrom stop 0 ms) (stepsFrom stop (g + width (m .column)) ms)) ≤ suc (length ms)
-    go true a b = omega arith
-    go false a b = omega arith
-
-pub row-steps-few : (cs : List Column) → length (rowSteps cs) ≤ length cs
-row-steps-few cs = omega (arith, steps-few isStop 0 (marks 0 cs), length-marks 0 cs)
-
 -- Words.
 
--- the word of a column says its step
-word-says :
-    (slot gap bit : ℕ) (c : Column) → gap < 65536 → bit < 256 → c ≡ asColumn (entryIn slot) →
-    Says (wordOf slot gap bit (width (asColumn (entryIn slot)))) (stepTo gap (mark c bit))
-word-says slot gap bit c g b e =
-    let w : ℕ = width (asColumn (entryIn slot)) in
-    record {
-      column = word-column slot gap bit w g b ∙ sym e;
-      gap = word-gap slot gap bit w g b;
-      bit = word-bit slot gap bit w g b;
-      width = word-width slot gap bit w g b ∙ ap (λ (k : Column). width k) (sym e);
-    }
+-- the word of a column in a slot says its stop
+pub word-says :
+    (free : Bool) (c : Column) (gap bit slot : ℕ) {w : ℕ} → gap < 65536 → bit < 64 → c ≡ asColumn (entryIn slot) →
+    w ≡ stopWord (stopOf free c (gap % 65536) (bit % 64)) → stopIn w ≡ stopOf free c gap bit
+word-says free c gap bit slot {w} g b e h =
+    let x : gap % 65536 ≡ gap = omega arith in
+    let y : bit % 64 ≡ bit = omega arith in
+    let m : c .maximum < 65536 = rw e (omega arith) in
+    rw (h, x, y) (stop-in (stop-fits free c gap bit g b m))
 
--- and its column in update data
-word-says-column : (slot : ℕ) → SaysColumn (wordOf slot 0 0 (width (asColumn (entryIn slot)))) (asColumn (entryIn slot))
-word-says-column slot =
-    let w : ℕ = width (asColumn (entryIn slot)) in
-    record {
-      column = word-column slot 0 0 w (omega arith) (omega arith);
-      gap = word-gap slot 0 0 w (omega arith) (omega arith);
-      width = word-width slot 0 0 w (omega arith) (omega arith);
-    }
+-- Words from `next` on say these stops; all others are what they were.
+pub record Saying (next : ℕ) (ts : List Stop) (words₀ words : List ℕ) : Type 0 where
+  pub says : SayAll words next ts
+  pub long : length words ≡ length words₀
+  pub others : (j : ℕ) → (j < next) ⊎ (next + length ts ≤ j) → getD words j 0 ≡ getD words₀ j 0
 
--- one step more, behind the others
+say-start : (next : ℕ) (words : List ℕ) → Saying next [] words words
+say-start next words = record { says = below-none _; long = refl; others = λ j h. refl }
+
+-- one stop more
 say-more :
-    (words : List ℕ) (next : ℕ) (ts : List Step) (w : ℕ) (t : Step) → next + length ts < length words → SayAll words next ts → Says w t →
-    SayAll (set words (next + length ts) w) next (ts ++ (t ∷ []))
-say-more words next ts w t h all says i l = go (ltb i (length ts)) refl
-  where
-    go : (b : Bool) → ltb i (length ts) ≡ b → Says (getD (set words (next + length ts) w) (next + i) 0) (getD (ts ++ (t ∷ [])) i noStep)
-    go true b =
-        let k : i < length ts = ltb-true _ _ b in
-        rw (getD-set-other words (next + length ts) (next + i) w 0 (λ e. omega arith), List·getD-append ts (t ∷ []) noStep i k) (all i k)
-    go false b =
-        let k : length ts ≤ i = ltb-false _ _ b in
-        let z : i ≡ length ts = omega (arith, length-append ts (t ∷ []), l) in
-        rw (z, getD-set-same words (next + length ts) w 0 h, getD-append-seam ts t [] noStep) says
-
--- the same steps in other words
-say-same :
-    (words other : List ℕ) (first : ℕ) (ts : List Step) → ((i : ℕ) → i < first + length ts → getD other i 0 ≡ getD words i 0) → SayAll words first ts →
-    SayAll other first ts
-say-same words other first ts same all i h = rw (same (first + i) (omega arith)) (all i h)
-
--- The words of update data for the first i slots.
-pub record Updating (slots words₀ words : List ℕ) (i : ℕ) : Type 0 where
-  pub below : i ≤ 256
-  pub long : length words ≡ length words₀
-  pub says : (j : ℕ) → j < i → SaysColumn (getD words (updateWords + j) 0) (asColumn (entryIn (getD slots j 0)))
-
-pub updates-start : (slots words : List ℕ) → Updating slots words words 0
-updates-start slots words = record { below = omega arith; long = refl; says = λ j h. absurd (omega arith) }
-
-pub updates-next :
-    {slots words₀ words : List ℕ} {i : ℕ} → length words₀ ≡ 512 → Updating slots words₀ words i → i < 256 → (w : ℕ) →
-    w ≡ wordOf (getD slots i 0) 0 0 (width (asColumn (entryIn (getD slots i 0)))) → Updating slots words₀ (set words (updateWords + i) w) (i + 1)
-updates-next {slots} {words₀} {words} {i} n u h w e =
+    {next : ℕ} {ts : List Stop} {words₀ words : List ℕ} (w at : ℕ) {t : Stop} → Saying next ts words₀ words → stopIn w ≡ t →
+    at ≡ next + length ts → at < length words → Saying next (ts ++ (t ∷ [])) words₀ (set words at w)
+say-more {next} {ts} {words₀} {words} w at {t} s e a h =
     record {
-      below = omega arith;
-      long = length-set words (updateWords + i) w ∙ u .long;
-      says = λ j l. go j l (ltb j i) refl;
+      says = λ i l. here i l (ltb i (length ts)) refl;
+      long = length-set words at w ∙ s .long;
+      others = λ j l. getD-set-other words at j w 0 (λ z. away j (rw n at l) z) ∙ s .others j (wider j (rw n at l));
     }
   where
-    go :
-        (j : ℕ) → j < i + 1 → (b : Bool) → ltb j i ≡ b →
-        SaysColumn (getD (set words (updateWords + i) w) (updateWords + j) 0) (asColumn (entryIn (getD slots j 0)))
-    go j l true b =
-        let k : j < i = ltb-true _ _ b in
-        rw (getD-set-other words (updateWords + i) (updateWords + j) w 0 (λ e. omega arith)) (u .says j k)
-    go j l false b =
-        let k : i ≤ j = ltb-false _ _ b in
-        let z : j ≡ i = omega arith in
-        rw (z, getD-set-same words (updateWords + i) w 0 (omega (arith, u .long, n, h)), e) (word-says-column (getD slots i 0))
+    n : length (ts ++ (t ∷ [])) ≡ length ts + 1
+    n = length-append ts (t ∷ [])
 
-pub updates-end : {slots words₀ words : List ℕ} {i : ℕ} → Updating slots words₀ words i → 256 ≤ i → AllUpdates slots words₀ words
-updates-end u h = record { says = λ j l. u .says j (omega (arith, l, h)); long = u .long }
+    here : (i : ℕ) → i < length (ts ++ (t ∷ [])) → (b : Bool) → ltb i (length ts) ≡ b → stopIn (getD (set words at w) (next + i) 0) ≡ getD (ts ++ (t ∷ [])) i noStop
+    here i l true b =
+        let k : i < length ts = ltb-true _ _ b in
+        rw (getD-set-other words at (next + i) w 0 (λ z. omega arith), List·getD-append ts (t ∷ []) noStop i k) (s .says i k)
+    here i l false b =
+        let k : length ts ≤ i = ltb-false _ _ b in
+        let z : i ≡ length ts = omega (arith, n) in
+        rw (z, ← a, getD-set-same words at w 0 h, getD-append-seam ts t [] noStop) e
 
--- The steps and the counts of the first i columns of a schema, with the words from `next` on.
-pub record Growing (cs : List Column) (next : ℕ) (words₀ words : List ℕ) (steps gap bit i : ℕ) : Type 0 where
+    away : (j : ℕ) → (j < next) ⊎ (next + (length ts + 1) ≤ j) → j ≡ at → ⊥
+    away j (inl l) z = omega arith
+    away j (inr l) z = omega arith
+
+    wider : (j : ℕ) → (j < next) ⊎ (next + (length ts + 1) ≤ j) → (j < next) ⊎ (next + length ts ≤ j)
+    wider j (inl l) = inl l
+    wider j (inr l) = inr (omega arith)
+
+-- The words of update data, of the first i columns.
+
+module _ (cs : List Column) (next : ℕ) where
+  abbrev pub Updating : (words₀ words : List ℕ) (i : ℕ) → Type 0
+  Updating words₀ words i = Saying next (take i (dataStops true cs)) words₀ words
+
+  pub updates-start : (words : List ℕ) → Updating words words 0
+  updates-start words = say-start next words
+
+  pub updates-next :
+      {words₀ words : List ℕ} {i w : ℕ} {c : Column} (slot : ℕ) → Updating words₀ words i → i < length cs → length cs ≤ 64 → next + i < length words →
+      c ≡ getD cs i noColumn → c ≡ asColumn (entryIn slot) → w ≡ stopWord (stopOf true c 0 (i % 64)) → Updating words₀ (set words (next + i) w) (i + 1)
+  updates-next {words₀} {words} {i} {w} {c} slot u h few room e f g =
+      let ts : List Stop = dataStops true cs in
+      let n : length (take i ts) ≡ i = omega (arith, length-take i ts, update-stops cs, h) in
+      let t : getD ts i noStop ≡ stopOf true c 0 i = update-stop cs i h ∙ ap (λ (x : Column). stopOf true x 0 i) (sym e) in
+      let more : take (i + 1) ts ≡ take i ts ++ (stopOf true c 0 i ∷ []) =
+      ap (λ (k : ℕ). take k ts) (add-one i) ∙ take-suc ts i noStop (omega (arith, update-stops cs, h)) ∙ rw t refl in
+      rw more (say-more w (next + i) u (word-says true c 0 i slot (omega arith) (omega arith) f g) (omega (arith, n)) room)
+
+  pub updates-end : {words₀ words : List ℕ} {i : ℕ} (k : ℕ) → Updating words₀ words i → length cs ≤ i → Updated cs k next words₀ words
+  updates-end {words₀} {words} {i} k u h =
+      let all : take i (dataStops true cs) ≡ dataStops true cs = take-all i (dataStops true cs) (omega (arith, update-stops cs, h)) in
+      record { says = λ _. rw (← all) (u .says); long = u .long; others = λ j l. u .others j (inl l) }
+
+  -- none of the top schema
+  pub updates-none : (words : List ℕ) {k : ℕ} → k ≡ 0 → Updated cs k next words words
+  updates-none words e = record { says = λ l. absurd (omega arith); long = refl; others = λ i h. refl }
+
+-- The stops and the counts of the first i columns of a schema, with the words from `next` on.
+pub record Growing (cs : List Column) (next : ℕ) (words₀ words : List ℕ) (stops gap bit i : ℕ) : Type 0 where
   pub below : i ≤ length cs
-  pub long : length words ≡ length words₀
-  pub says : SayAll words next (stepsFrom isStop 0 (take i (marks 0 cs)))
-  pub count : steps ≡ length (stepsFrom isStop 0 (take i (marks 0 cs)))
+  pub said : Saying next (stopsFrom isNullable isStop 0 (take i (marks 0 cs))) words₀ words
+  pub count : stops ≡ length (stopsFrom isNullable isStop 0 (take i (marks 0 cs)))
   pub tail : gap ≡ tailFrom isStop 0 (take i (marks 0 cs))
   pub bits : bit ≡ bitOf cs i
-  pub others : (j : ℕ) → (j < next) ⊎ (next + steps ≤ j) → getD words j 0 ≡ getD words₀ j 0
-  pub few-steps : steps ≤ i
+  pub few-stops : stops ≤ i
   pub few-gap : gap ≤ 16 * i
   pub few-bits : bit ≤ i
 
 pub grow-start : (cs : List Column) (next : ℕ) (words : List ℕ) → Growing cs next words words 0 0 0 0
-unfolding stepsFrom tailFrom
+unfolding stopsFrom tailFrom
 grow-start cs next words =
     record {
       below = omega arith;
-      long = refl;
-      says = λ i h. absurd (omega arith);
+      said = say-start next words;
       count = refl;
       tail = refl;
       bits = sym (bit-zero cs);
-      others = λ j h. refl;
-      few-steps = omega arith;
+      few-stops = omega arith;
       few-gap = omega arith;
       few-bits = omega arith;
     }
 
--- Column i, whose slot is this one.
+-- Column i.
 module _
-    {cs : List Column} {next : ℕ} {words₀ words : List ℕ} {steps gap bit i : ℕ}
-    (grown : Growing cs next words₀ words steps gap bit i) (h : i < length cs) (c : Column) (e : c ≡ getD cs i noColumn)
+    {cs : List Column} {next : ℕ} {words₀ words : List ℕ} {stops gap bit i : ℕ}
+    (grown : Growing cs next words₀ words stops gap bit i) (h : i < length cs) (c : Column) (e : c ≡ getD cs i noColumn)
   where
-    -- the column with its bit
-    mark-here : getD (marks 0 cs) i noMark ≡ mark c bit
-    mark-here = mark-at cs i h ∙ rw (e, grown .bits) refl
+    abbrev ms : List Mark
+    ms = take i (marks 0 cs)
 
-    inside-marks : i < length (marks 0 cs)
-    inside-marks = omega (arith, length-marks 0 cs, h)
+    -- with its bit it comes behind the columns before it
+    marks-more : take (i + 1) (marks 0 cs) ≡ ms ++ (mark c bit ∷ [])
+    marks-more =
+        let m : getD (marks 0 cs) i noMark ≡ mark c bit = mark-at cs i h ∙ rw (e, grown .bits) refl in
+        ap (λ (j : ℕ). take j (marks 0 cs)) (add-one i) ∙ take-suc (marks 0 cs) i noMark (omega (arith, length-marks 0 cs, h)) ∙ rw m refl
 
-    step-more : isStop c ≡ true →
-        stepsFrom isStop 0 (take (i + 1) (marks 0 cs)) ≡ stepsFrom isStop 0 (take i (marks 0 cs)) ++ (stepTo gap (mark c bit) ∷ [])
-    step-more s =
-        ap (λ (j : ℕ). stepsFrom isStop 0 (take j (marks 0 cs))) (add-one i)
-        ∙ steps-suc isStop 0 (marks 0 cs) i inside-marks
-        ∙ rw (mark-here, s, ← grown .tail) refl
+    stops-more : stopsFrom isNullable isStop 0 (take (i + 1) (marks 0 cs)) ≡ stopsFrom isNullable isStop 0 ms ++ stopsFrom isNullable isStop gap (mark c bit ∷ [])
+    stops-more = rw (marks-more, grown .tail) (stops-append isNullable isStop 0 ms (mark c bit ∷ []))
 
-    step-none : isStop c ≡ false → stepsFrom isStop 0 (take (i + 1) (marks 0 cs)) ≡ stepsFrom isStop 0 (take i (marks 0 cs))
-    step-none s =
-        ap (λ (j : ℕ). stepsFrom isStop 0 (take j (marks 0 cs))) (add-one i)
-        ∙ steps-suc isStop 0 (marks 0 cs) i inside-marks
-        ∙ rw (mark-here, s) (append-nil (stepsFrom isStop 0 (take i (marks 0 cs))))
-
-    tail-none : isStop c ≡ true → 0 ≡ tailFrom isStop 0 (take (i + 1) (marks 0 cs))
-    tail-none s =
-        sym (ap (λ (j : ℕ). tailFrom isStop 0 (take j (marks 0 cs))) (add-one i)
-        ∙ tail-suc isStop 0 (marks 0 cs) i inside-marks
-        ∙ rw (mark-here, s) refl)
-
-    tail-more : isStop c ≡ false → gap + width c ≡ tailFrom isStop 0 (take (i + 1) (marks 0 cs))
-    tail-more s =
-        sym (ap (λ (j : ℕ). tailFrom isStop 0 (take j (marks 0 cs))) (add-one i)
-        ∙ tail-suc isStop 0 (marks 0 cs) i inside-marks
-        ∙ rw (mark-here, s, ← grown .tail) refl)
+    tail-more : tailFrom isStop 0 (take (i + 1) (marks 0 cs)) ≡ tailFrom isStop gap (mark c bit ∷ [])
+    tail-more = rw (marks-more, grown .tail) (tail-append isStop 0 ms (mark c bit ∷ []))
 
     module _ {n : ℕ} (a-bit : n ≡ one (isNullable c)) where
       bits-on : bit + n ≡ bitOf cs (i + 1)
@@ -242,107 +168,89 @@ module _
 
       -- a stop, and its word
       pub grow-stop :
-          isStop c ≡ true → (slot : ℕ) {w : ℕ} → c ≡ asColumn (entryIn slot) → w ≡ wordOf slot gap bit (width (asColumn (entryIn slot))) →
-          length cs ≤ 64 → next + steps < length words →
-          Growing cs next words₀ (set words (next + steps) w) (steps + 1) 0 (bit + n) (i + 1)
+          isStop c ≡ true → (slot : ℕ) {w : ℕ} → c ≡ asColumn (entryIn slot) → w ≡ stopWord (stopOf (isNullable c) c (gap % 65536) (bit % 64)) →
+          length cs ≤ 64 → next + stops < length words → Growing cs next words₀ (set words (next + stops) w) (stops + 1) 0 (bit + n) (i + 1)
+      unfolding stopsFrom tailFrom
       grow-stop s slot {w} a b few room =
-          let old : List Step = stepsFrom isStop 0 (take i (marks 0 cs)) in
-          let t : Step = stepTo gap (mark c bit) in
-          let says : Says w t = rw b (word-says slot gap bit c (omega (arith, grown .few-gap, h, few)) (omega (arith, grown .few-bits, h, few)) a) in
-          let all : SayAll (set words (next + length old) w) next (old ++ (t ∷ [])) =
-          say-more words next old w t (omega (arith, grown .count, room)) (grown .says) says in
+          let old : List Stop = stopsFrom isNullable isStop 0 ms in
+          let t : Stop = stopOf (isNullable c) c gap bit in
+          let more : stopsFrom isNullable isStop 0 (take (i + 1) (marks 0 cs)) ≡ old ++ (t ∷ []) = stops-more ∙ rw s refl in
+          let says : stopIn w ≡ t =
+          word-says (isNullable c) c gap bit slot (omega (arith, grown .few-gap, h, few)) (omega (arith, grown .few-bits, h, few)) a b in
           record {
             below = omega arith;
-            long = length-set words (next + steps) w ∙ grown .long;
-            says = rw (step-more s, grown .count) all;
-            count = rw (step-more s) (omega (arith, grown .count, length-append old (t ∷ [])));
-            tail = tail-none s;
+            said = rw more (say-more w (next + stops) (grown .said) says (omega (arith, grown .count)) room);
+            count = rw more (omega (arith, grown .count, length-append old (t ∷ [])));
+            tail = sym (tail-more ∙ rw s refl);
             bits = bits-on;
-            others = λ j l. getD-set-other words (next + steps) j w 0 (λ z. away j l z) ∙ grown .others j (wider j l);
-            few-steps = omega (arith, grown .few-steps);
+            few-stops = omega (arith, grown .few-stops);
             few-gap = omega arith;
             few-bits = omega (arith, grown .few-bits, a-bit, one-most (isNullable c));
           }
-        where
-          away : (j : ℕ) → (j < next) ⊎ (next + (steps + 1) ≤ j) → j ≡ next + steps → ⊥
-          away j (inl l) z = omega arith
-          away j (inr l) z = omega arith
-
-          wider : (j : ℕ) → (j < next) ⊎ (next + (steps + 1) ≤ j) → (j < next) ⊎ (next + steps ≤ j)
-          wider j (inl l) = inl l
-          wider j (inr l) = inr (omega arith)
 
       -- any other column
-      pub grow-plain :
-          isStop c ≡ false → {w : ℕ} → w ≡ width c →
-          Growing cs next words₀ words steps (gap + w) (bit + n) (i + 1)
+      pub grow-plain : isStop c ≡ false → {w : ℕ} → w ≡ width c → Growing cs next words₀ words stops (gap + w) (bit + n) (i + 1)
+      unfolding stopsFrom tailFrom
       grow-plain s {w} b =
+          let old : List Stop = stopsFrom isNullable isStop 0 ms in
+          let none : stopsFrom isNullable isStop 0 (take (i + 1) (marks 0 cs)) ≡ old = stops-more ∙ rw s (append-nil old) in
           record {
             below = omega arith;
-            long = grown .long;
-            says = rw (step-none s) (grown .says);
-            count = rw (step-none s) (grown .count);
-            tail = rw b (tail-more s);
+            said = rw none (grown .said);
+            count = rw none (grown .count);
+            tail = rw b (sym (tail-more ∙ rw s refl));
             bits = bits-on;
-            others = grown .others;
-            few-steps = omega (arith, grown .few-steps);
+            few-stops = omega (arith, grown .few-stops);
             few-gap = omega (arith, grown .few-gap, b, width-few c);
             few-bits = omega (arith, grown .few-bits, a-bit, one-most (isNullable c));
           }
 
 -- All columns: the form of the schema.
 module _
-    {cs : List Column} {next : ℕ} {words₀ words : List ℕ} {steps gap bit i : ℕ}
-    (grown : Growing cs next words₀ words steps gap bit i) (few : length cs ≤ 64) (room : next + length cs ≤ 256)
+    {cs : List Column} {next : ℕ} {words₀ words : List ℕ} {stops gap bit i : ℕ}
+    (grown : Growing cs next words₀ words stops gap bit i) (few : length cs ≤ 64) (room : next + length cs ≤ 256)
     {bytes : ℕ} (b : bytes ≡ mapBytes bit)
   where
     -- its parts have their room
-    pub grow-fits : (next < 65536) × (steps < 256) × (bytes < 256) × (gap < 65536)
+    pub grow-fits : (next < 65536) × (stops < 256) × (bytes < 256) × (gap < 65536)
     grow-fits =
         let l : i ≤ 64 = omega (arith, grown .below) in (
           omega arith,
-          omega (arith, grown .few-steps),
+          omega (arith, grown .few-stops),
           omega (arith, b, map-few bit, grown .few-bits),
           omega (arith, grown .few-gap),
         )
 
-    pub grow-end : length cs ≤ i → {form : ℕ} → form ≡ formOf next steps bytes gap → Added cs next words₀ words form
+    pub grow-end : length cs ≤ i → {form always : ℕ} → always ≡ one (ltb bit (length cs)) → form ≡ formOf next stops bytes gap always → Added cs next words₀ words form
     unfolding presenceBytes
-    grow-end l {form} f =
+    grow-end l {form} {always} y f =
         let z : i ≡ length cs = omega (arith, grown .below, l) in
         let whole : take i (marks 0 cs) ≡ marks 0 cs = take-all i (marks 0 cs) (omega (arith, length-marks 0 cs, l)) in
-        let s : stepsFrom isStop 0 (take i (marks 0 cs)) ≡ rowSteps cs = ap (stepsFrom isStop 0) whole in
-        let n : steps ≡ length (rowSteps cs) = grown .count ∙ ap length s in
+        let s : stopsFrom isNullable isStop 0 (take i (marks 0 cs)) ≡ dataStops false cs = ap (stopsFrom isNullable isStop 0) whole in
+        let n : stops ≡ length (dataStops false cs) = grown .count ∙ ap length s in
+        let all : bit ≡ nullables cs = grown .bits ∙ ap (bitOf cs) z ∙ bit-all cs in
         let (p, q, r, t) = grow-fits in
-        let first : firstIn form ≡ next = ap (λ (x : ℕ). firstIn x) f ∙ form-first next steps bytes gap p q r t in
+        let first : firstIn form ≡ next = ap (λ (x : ℕ). firstIn x) f ∙ form-first next stops bytes gap always p q r t in
         record {
           formed =
               record {
-                steps = rw (first, ← s) (grown .says);
-                inside = omega (arith, first, n, grown .few-steps);
-                count = ap (λ (x : ℕ). stepsIn x) f ∙ form-steps next steps bytes gap p q r t ∙ n;
-                map =
-                    ap (λ (x : ℕ). mapIn x) f ∙ form-map next steps bytes gap p q r t
-                    ∙ b ∙ ap mapBytes (grown .bits ∙ ap (bitOf cs) z ∙ bit-all cs);
-                tail =
-                    ap (λ (x : ℕ). tailIn x) f ∙ form-tail next steps bytes gap p q r t
-                    ∙ grown .tail ∙ ap (tailFrom isStop 0) whole;
+                stops = rw (first, ← s) (grown .said .says);
+                inside = omega (arith, first);
+                count = ap (λ (x : ℕ). stopsIn x) f ∙ form-stops next stops bytes gap always p q r t ∙ n;
+                map = ap (λ (x : ℕ). mapIn x) f ∙ form-map next stops bytes gap always p q r t ∙ b ∙ ap mapBytes all;
+                tail = ap (λ (x : ℕ). tailIn x) f ∙ form-tail next stops bytes gap always p q r t ∙ grown .tail ∙ ap (tailFrom isStop 0) whole;
+                always =
+                    ap (λ (x : ℕ). alwaysIn x) f ∙ form-always next stops bytes gap always p q r t
+                    ∙ y ∙ ap (λ (x : ℕ). one (ltb x (length cs))) all;
               };
           first = first;
-          long = grown .long;
-          others = λ j h. grown .others j (rw n h);
+          long = grown .said .long;
+          others = λ j h. grown .said .others j (wider j h);
         }
-
--- Columns of slots.
-
-pub slots-length : (first count : ℕ) (slots : List ℕ) → length (map asColumn (entriesIn first count slots)) ≡ count
-slots-length first count slots = length-map (entriesIn first count slots) asColumn ∙ entries-length first count slots
-
-pub slots-column :
-    (first count : ℕ) (slots : List ℕ) (i : ℕ) → i < count → {c : Column} → c ≡ asColumn (entryIn (getD slots (first + i) 0)) →
-    c ≡ getD (map asColumn (entriesIn first count slots)) i noColumn
-slots-column first count slots i h e =
-    e ∙ sym (List·getD-map asColumn (entriesIn first count slots) i (entry 0 0 0 0) ∙ ap asColumn (entries-at first count slots i h))
+      where
+        wider : (j : ℕ) → (j < next) ⊎ (next + length cs ≤ j) → (j < next) ⊎ (next + length (stopsFrom isNullable isStop 0 (take i (marks 0 cs))) ≤ j)
+        wider j (inl h) = inl h
+        wider j (inr h) = inr (omega (arith, grown .count, grown .few-stops, grown .below))
 
 -- Schemas.
 
@@ -369,116 +277,119 @@ schema-length slots n k h =
     ap (λ (s : Schema). length (s .columns)) (schemas-in-at 0 n slots k h ∙ ap (λ (j : ℕ). schemaIn j slots) z)
     ∙ entries-length (startIn slot) (countIn slot) slots
 
--- a form says the same of other words, where the words of its steps are the same
+-- a form says the same of other words, where those of its stops are the same
 formed-same :
-    (words other : List ℕ) (form : ℕ) (cs : List Column) → ((i : ℕ) → i < firstIn form + length (rowSteps cs) → getD other i 0 ≡ getD words i 0) →
+    (words other : List ℕ) (form : ℕ) (cs : List Column) → ((i : ℕ) → i < firstIn form + length cs → getD other i 0 ≡ getD words i 0) →
     Formed words form cs → Formed other form cs
 formed-same words other form cs same f =
     record {
-      steps = say-same words other (firstIn form) (rowSteps cs) same (f .steps);
+      stops = λ i h. rw (same (firstIn form + i) (omega (arith, stops-few isNullable isStop 0 (marks 0 cs), length-marks 0 cs))) (f .stops i h);
       inside = f .inside;
       count = f .count;
       map = f .map;
       tail = f .tail;
+      always = f .always;
     }
 
--- The forms of the first k schemas, with their words before `next`.
-pub record Forming (slots : List ℕ) (n : ℕ) (words₀ words forms : List ℕ) (next k : ℕ) : Type 0 where
+-- what is said of schema number k
+abbrev Said : (slots words forms : List ℕ) → ℕ → Type 0
+Said slots words forms k =
+    Formed words (getD forms k 0) (slotColumns slots k)
+    × (1 ≤ k → SayAll words (updateWords + firstIn (getD forms k 0)) (dataStops true (slotColumns slots k)))
+
+-- The words, forms and masks of the first k schemas, with the words before `next`.
+pub record Forming (slots : List ℕ) (n : ℕ) (words forms masks : List ℕ) (next k : ℕ) : Type 0 where
   pub below : k ≤ n
   pub long : length words ≡ 512
   pub wide : length forms ≡ 256
-  pub formed : (j : ℕ) → j < k → Formed words (getD forms j 0) (slotColumns slots j)
-  pub ends : (j : ℕ) → j < k → firstIn (getD forms j 0) + length (rowSteps (slotColumns slots j)) ≤ next
-  pub room : next ≤ columnCount (take k (schemasIn 0 n slots))
-  pub others : (i : ℕ) → updateWords ≤ i → getD words i 0 ≡ getD words₀ i 0
+  pub broad : length masks ≡ 1024
+  pub said : (j : ℕ) → j < k → Said slots words forms j
+  pub ends : (j : ℕ) → j < k → firstIn (getD forms j 0) + length (slotColumns slots j) ≤ next
+  pub room : next ≡ columnCount (take k (schemasIn 0 n slots))
+  pub masked : AllMasked slots masks k
 
 pub forms-start :
-    (slots : List ℕ) (n : ℕ) (words forms : List ℕ) → length words ≡ 512 → length forms ≡ 256 → Forming slots n words words forms 0 0
-forms-start slots n words forms l m =
+    (slots : List ℕ) (n : ℕ) (words forms masks : List ℕ) → length words ≡ 512 → length forms ≡ 256 → length masks ≡ 1024 →
+    Forming slots n words forms masks 0 0
+unfolding columnCount
+forms-start slots n words forms masks l m b =
     record {
       below = omega arith;
       long = l;
       wide = m;
-      formed = λ j h. absurd (omega arith);
-      ends = λ j h. absurd (omega arith);
-      room = omega arith;
-      others = λ i h. refl;
+      broad = b;
+      said = below-none _;
+      ends = below-none _;
+      room = refl;
+      masked = below-none _;
     }
 
 module _
-    {slots : List ℕ} {n : ℕ} {words₀ words forms : List ℕ} {next k : ℕ} (sound : Sound slots n) (f : Forming slots n words₀ words forms next k)
-    (h : k < n)
+    {slots : List ℕ} {n : ℕ} {words forms masks : List ℕ} {next k : ℕ} (sound : Sound slots n) (f : Forming slots n words forms masks next k) (h : k < n)
   where
-    -- there is room for the steps of schema number k
-    pub forms-room : next + countIn (getD slots (schemaSlot k) 0) ≤ 256
-    forms-room =
-        omega (
-          arith,
-          f .room,
-          count-suc (schemasIn 0 n slots) k (omega (arith, schemas-in-length 0 n slots, h)),
-          schema-length slots n k h,
-          count-below (schemasIn 0 n slots) (suc k),
-          sound .total,
-        )
+    abbrev slot : ℕ
+    slot = getD slots (schemaSlot k) 0
 
-    -- its form and its steps
+    more : columnCount (take (suc k) (schemasIn 0 n slots)) ≡ next + countIn slot
+    more =
+        omega (arith, f .room, count-suc (schemasIn 0 n slots) k (omega (arith, schemas-in-length 0 n slots, h)), schema-length slots n k h)
+
+    -- there is room for the stops of schema number k
+    pub forms-room : next + countIn slot ≤ 256
+    forms-room = omega (arith, more, count-below (schemasIn 0 n slots) (suc k), sound .total)
+
+    -- its form, its words and its masks
     pub forms-next :
-        {exit : List ℕ} {form : ℕ} → Added (slotColumns slots k) next words exit form →
-        Forming slots n words₀ exit (set forms k form) (next + stepsIn form) (k + 1)
-    forms-next {exit} {form} a =
-        let cs : List Column = slotColumns slots k in
-        let slot : ℕ = getD slots (schemaSlot k) 0 in
-        let size : length cs ≡ countIn slot = slots-length (startIn slot) (countIn slot) slots in
+        {stopped exit new : List ℕ} {form : ℕ} → Added (slotColumns slots k) next words stopped form →
+        Updated (slotColumns slots k) k (updateWords + next) stopped exit → MasksAdded (slotColumns slots k) k masks new →
+        Forming slots n exit (set forms k form) new (next + countIn slot) (k + 1)
+    forms-next {stopped} {exit} {new} {form} a u m =
         record {
           below = omega arith;
-          long = a .long ∙ f .long;
+          long = u .long ∙ a .long ∙ f .long;
           wide = length-set forms k form ∙ f .wide;
-          formed = λ j l. formed-at j l (ltb j k) refl;
-          ends = λ j l. ends-at j l (ltb j k) refl;
-          room =
-              rw (add-one k) (omega (
-                arith,
-                f .room,
-                a .formed .count,
-                row-steps-few cs,
-                size,
-                count-suc (schemasIn 0 n slots) k (omega (arith, schemas-in-length 0 n slots, h)),
-                schema-length slots n k h,
-              ));
-          others = λ i l. a .others i (inr (omega (arith, forms-room, row-steps-few cs, size, l))) ∙ f .others i l;
+          broad = m .long ∙ f .broad;
+          said = below-more _ k (λ j l. rw (old j l) (before j l)) (rw now-form now-said);
+          ends = below-more _ k (λ j l. rw (old j l) (omega (arith, f .ends j l))) (rw now-form (omega (arith, a .first, size)));
+          room = rw (add-one k) (sym more);
+          masked = masks-next slots k (f .masked) m;
         }
       where
-        formed-at : (j : ℕ) → j < k + 1 → (b : Bool) → ltb j k ≡ b → Formed exit (getD (set forms k form) j 0) (slotColumns slots j)
-        formed-at j l true b =
-            let m : j < k = ltb-true _ _ b in
-            rw (getD-set-other forms k j form 0 (λ e. omega arith))
-            (formed-same words exit (getD forms j 0) (slotColumns slots j) (λ i p. a .others i (inl (omega (arith, f .ends j m, p)))) (f .formed j m))
-        formed-at j l false b =
-            let m : k ≤ j = ltb-false _ _ b in
-            let z : j ≡ k = omega arith in
-            rw (z, getD-set-same forms k form 0 (omega (arith, f .wide, sound .all, h))) (a .formed)
+        cs : List Column
+        cs = slotColumns slots k
 
-        ends-at :
-            (j : ℕ) → j < k + 1 → (b : Bool) → ltb j k ≡ b →
-            firstIn (getD (set forms k form) j 0) + length (rowSteps (slotColumns slots j)) ≤ next + stepsIn form
-        ends-at j l true b =
-            let m : j < k = ltb-true _ _ b in
-            let e : getD (set forms k form) j 0 ≡ getD forms j 0 = getD-set-other forms k j form 0 (λ e. omega arith) in
-            rw e (omega (arith, f .ends j m))
-        ends-at j l false b =
-            let m : k ≤ j = ltb-false _ _ b in
-            let z : j ≡ k = omega arith in
-            let e : getD (set forms k form) k 0 ≡ form = getD-set-same forms k form 0 (omega (arith, f .wide, sound .all, h)) in
-            rw (z, e) (omega (arith, a .first, a .formed .count))
+        size : length (slotColumns slots k) ≡ countIn slot
+        size = length-slots slots (startIn slot) (countIn slot)
+
+        old : (j : ℕ) → j < k → getD (set forms k form) j 0 ≡ getD forms j 0
+        old j l = getD-set-other forms k j form 0 (λ e. omega arith)
+
+        now-form : getD (set forms k form) k 0 ≡ form
+        now-form = getD-set-same forms k form 0 (omega (arith, f .wide, sound .all, h))
+
+        -- the words of the schemas before it
+        same : (i : ℕ) → (i < next) ⊎ ((256 ≤ i) × (i < 256 + next)) → getD exit i 0 ≡ getD words i 0
+        same i (inl l) = u .others i (omega arith) ∙ a .others i (inl l)
+        same i (inr (g, l)) = u .others i l ∙ a .others i (inr (omega (arith, forms-room, size)))
+
+        before : (j : ℕ) → j < k → Formed exit (getD forms j 0) (slotColumns slots j) × (1 ≤ j → SayAll exit (updateWords + firstIn (getD forms j 0)) (dataStops true (slotColumns slots j)))
+        before j l =
+            let (x, y) = f .said j l in
+            let e = f .ends j l in (
+              formed-same words exit (getD forms j 0) (slotColumns slots j) (λ i p. same i (inl (omega (arith, e, p)))) x,
+              λ q i p. rw (same (updateWords + firstIn (getD forms j 0) + i) (inr (omega arith, omega (arith, e, p, update-stops (slotColumns slots j))))) (y q i p),
+            )
+
+        now-said : Formed exit form (slotColumns slots k) × (1 ≤ k → SayAll exit (updateWords + firstIn form) (dataStops true (slotColumns slots k)))
+        now-said = (
+          formed-same stopped exit form (slotColumns slots k) (λ i p. u .others i (omega (arith, a .first, forms-room, size, p))) (a .formed),
+          λ q. rw (a .first) (u .says q),
+        )
 
 pub forms-end :
-    {slots : List ℕ} {n : ℕ} {words₀ words forms : List ℕ} {next k : ℕ} → Forming slots n words₀ words forms next k → n ≤ k →
-    AllForms slots n words₀ words forms
-forms-end f h = record { formed = λ j l. f .formed j (omega (arith, l, h)); others = f .others }
-
--- The words of update data and then those of all schemas: all that rows are read by.
-pub shaped :
-    {slots : List ℕ} {n : ℕ} {words₀ words exit forms : List ℕ} → AllUpdates slots words₀ words → AllForms slots n words exit forms →
-    Shaped slots exit forms n
-shaped {slots} {n} {words₀} {words} {exit} {forms} u f =
-    record { formed = f .formed; updates = λ i h. rw (f .others (updateWords + i) (omega arith)) (u .says i h) }
+    {slots : List ℕ} {n : ℕ} {words forms masks : List ℕ} {next k : ℕ} → Forming slots n words forms masks next k → n ≤ k →
+    Shaped slots words forms n × AllMasked slots masks n
+forms-end f h = (
+  record { formed = λ j l. f .said j (omega (arith, l, h)) .0; updates = λ j l. f .said j (omega (arith, l, h)) .1 },
+  λ j l. f .masked j (omega (arith, l, h)),
+)

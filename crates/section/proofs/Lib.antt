@@ -1,14 +1,11 @@
 pub mod Slots
-pub mod MapBits
 pub mod MaskLaws
-pub mod Quiet
 pub mod MapRules
 pub mod HeadLaws
-pub mod Words
+pub mod Forms
 pub mod Growth
 pub mod Sound
-pub mod Leap
-pub mod Spans
+pub mod StepLaws
 pub mod Turns
 pub mod Laid
 pub mod Scan

@@ -1,40 +1,38 @@
--- Maps that their masks accept keep the rules, and what the bits of a map say of fields.
+-- Row data whose maps their masks accept open.
 -- Assumes nothing.
-use Prim.Native.Nat.{ℕ, zero, suc, _+_, _*_, _-_, _%_, _≤_, _<_}
+use Prim.Native.Nat.{ℕ, suc, _+_, _*_, _≤_, _<_}
 use mathlib.Core.Path.{_≡_, refl, sym, ap, _∙_}
 use mathlib.Core.List.{List, [], _∷_}
-use mathlib.Core.Bool.{Bool, true, false, not, true≢false}
+use mathlib.Core.Bool.{Bool, true, false, not}
 use native.Mathlib.Omega.{arith}
-use lib.Bits.{bitAnd, bitXor}
+use lib.Bits.{bitAnd}
 use lib.Dec.{eqb}
 use lib.ListN.{length, getD, drop}
 use borrow.Author.Tests.{eqb-true}
-use Rattle.wire.specs.Read.{Bytes, AreBytes, ok, pick}
+use Rattle.wire.specs.Read.{Bytes, AreBytes, ok, pick, check}
 use Rattle.wire.specs.Bits.{bitSet}
+use Rattle.wire.specs.Maps.{mapBits, topBit}
+use Rattle.wire.proofs.Laws.{whole-fits}
 use Rattle.column.specs.declared.column.Column.{Column}
-use Rattle.column.specs.Columns.{width, isChapter, isNullable, isStop}
-use Rattle.column.proofs.Stops.{stop-chapter}
-use Rattle.row.specs.Presence.{Mark, mark, noMark, marks, present, chapterPresent, clear}
-use Rattle.row.specs.Updates.{numbered, updateBytes, chapterMarked, forceBroken, carried, carriedIn}
+use Rattle.column.specs.Columns.{isChapter, isNullable}
+use Rattle.row.specs.Presence.{presenceBytes, Mark, noMark, marks, chapterPresent, clear}
+use Rattle.row.specs.Rows.{opened}
+use Rattle.row.specs.Updates.{numbered, updateBytes, chapterMarked, forceBroken, updateOpened}
 use Rattle.row.proofs.Laws.{bit-few, length-marks, mark-at}
-use Rattle.row.proofs.UpdateLaws.{length-numbered, number-at, carried-in}
-use Rattle.section.specs.Steps.{Step, stepTo, noStep, stepsFrom}
-use Rattle.section.specs.Shapes.{bitOfWord, Says, rowSteps}
-use Rattle.section.specs.Maps.{mapBits, bitIn, Covers, isMarked, isNested, isUnforced, isAny, Keeps, hasWord}
-use Rattle.section.specs.Data.{mapRules}
-use Rattle.section.proofs.MapBits.{bit-small, map-bit, without-bit, bit-none, bit-within}
-use Rattle.section.proofs.Quiet.{none-broken}
+use Rattle.row.proofs.UpdateLaws.{length-numbered, number-at}
+use Rattle.section.specs.Maps.{Covers, isMarked, isNested, isUnforced, isAny, Keeps}
+use Rattle.wire.proofs.MapBits.{map-bit, bit-none, bit-within}
 
 -- Bits.
 
 module _ (s : Bytes) (o : AreBytes s) (at i : ℕ) (h : i < 64) where
   -- a bit of a map, by its number
-  set-by : bitSet (drop at s) i ≡ eqb (bitIn (mapBits s at) i) 1
+  pub set-by : bitSet (drop at s) i ≡ eqb (topBit (mapBits s at) i) 1
   unfolding bitSet
   set-by = ap (λ (b : ℕ). eqb b 1) (sym (map-bit s at i o h))
 
   -- it is not set where a mask has it with which the map shares none
-  unset-by : (mask : ℕ) → bitAnd (mapBits s at) mask ≡ 0 → bitIn mask i ≡ 1 → bitSet (drop at s) i ≡ false
+  unset-by : (mask : ℕ) → bitAnd (mapBits s at) mask ≡ 0 → topBit mask i ≡ 1 → bitSet (drop at s) i ≡ false
   unset-by mask e m = set-by ∙ ap (λ (b : ℕ). eqb b 1) (bit-none (mapBits s at) mask i e m)
 
 -- The bits of columns.
@@ -53,9 +51,16 @@ number-small cs few i l =
 
 -- Rules.
 
+-- no mark breaks one
+none-broken :
+    (broken : Mark → Bool) (code at : ℕ) (ms : List Mark) → ((i : ℕ) → i < length ms → broken (getD ms i noMark) ≡ false) → clear broken code at ms ≡ ok tt
+unfolding clear check
+none-broken broken code at [] h = refl
+none-broken broken code at (m ∷ ms) h = rw (h 0 (omega arith)) (none-broken broken code at ms (λ i l. h (suc i) (omega arith)))
+
 module _ (cs : List Column) (s : Bytes) (o : AreBytes s) (few : length cs ≤ 64) where
   -- no nullable chapter's bit is set in a presence map
-  pub presence-kept :
+  presence-kept :
       (at mask : ℕ) → Covers mask isMarked (marks 0 cs) → bitAnd (mapBits s at) mask ≡ 0 →
       clear (chapterPresent (drop at s)) 12 at (marks 0 cs) ≡ ok tt
   unfolding chapterPresent
@@ -111,82 +116,33 @@ module _ (cs : List Column) (s : Bytes) (o : AreBytes s) (few : length cs ≤ 64
           by (bitSet (drop force s) (m .bit)) (bitSet (drop at s) (m .bit)) (isChapter (m .column)) (isNullable (m .column))
           (λ t. unset-by s o force (m .bit) k unforced e (covers i l t))
           (λ t.
-          let f : bitIn (mapBits s force) (m .bit) ≡ 1 = eqb-true _ _ (sym (set-by s o force (m .bit) k) ∙ t) in
-          let v : bitIn (mapBits s at) (m .bit) ≡ 1 = bit-within (mapBits s force) (mapBits s at) all (m .bit) both (any i l refl) f in
+          let f : topBit (mapBits s force) (m .bit) ≡ 1 = eqb-true _ _ (sym (set-by s o force (m .bit) k) ∙ t) in
+          let v : topBit (mapBits s at) (m .bit) ≡ 1 = bit-within (mapBits s force) (mapBits s at) all (m .bit) both (any i l refl) f in
           set-by s o at (m .bit) k ∙ ap (λ (b : ℕ). eqb b 1) v)
 
-  -- the two maps of update data keep all rules
-  pub maps-kept :
+  -- Original row data.
+  pub row-opens :
+      (at mask : ℕ) → Covers mask isMarked (marks 0 cs) → bitAnd (mapBits s at) mask ≡ 0 → at + presenceBytes cs ≤ length s →
+      opened cs s at ≡ ok (at + presenceBytes cs)
+  unfolding opened
+  row-opens at mask covers e h = simp (whole-fits s at (presenceBytes cs) h, presence-kept at mask covers e)
+
+  -- Update data.
+  pub update-opens :
       (at chapters unforced all : ℕ) → Covers chapters isNested (numbered 0 cs) → Covers unforced isUnforced (numbered 0 cs) →
-      Covers all isAny (numbered 0 cs) → Keeps (mapBits s at) (mapBits s (at + updateBytes cs)) chapters unforced all → mapRules cs s at ≡ ok tt
-  unfolding mapRules
-  maps-kept at chapters unforced all nested covers any k =
+      Covers all isAny (numbered 0 cs) → Keeps (mapBits s at) (mapBits s (at + updateBytes cs)) chapters unforced all →
+      at + 2 * updateBytes cs ≤ length s → updateOpened cs s at ≡ ok (at + 2 * updateBytes cs)
+  unfolding updateOpened
+  update-opens at chapters unforced all nested covers any k h =
       let force : ℕ = at + updateBytes cs in
       let second : clear (chapterMarked (drop force s)) 12 force (numbered 0 cs) ≡ ok tt =
       chapters-kept force unforced (λ i l t. covers i l (also (getD (numbered 0 cs) i noMark) t)) (k .force) in
-      simp (chapters-kept at chapters nested (k .update), second, force-kept at force unforced all covers any (k .force) (k .both))
+      simp (
+        whole-fits s at (2 * updateBytes cs) h,
+        chapters-kept at chapters nested (k .update),
+        second,
+        force-kept at force unforced all covers any (k .force) (k .both),
+      )
     where
       also : (m : Mark) → isNested m ≡ true → isUnforced m ≡ true
       also m t = rw t refl
-
--- Fields.
-
--- steps to stops alone, with a bit under 64
-abbrev ToStops : List Step → Type 0
-ToStops ts = (i : ℕ) → i < length ts → (isStop (getD ts i noStep .mark .column) ≡ true) × (getD ts i noStep .mark .bit < 64)
-
-step-stop : (gap : ℕ) (ms : List Mark) → ((i : ℕ) → i < length ms → getD ms i noMark .bit < 64) → ToStops (stepsFrom isStop gap ms)
-unfolding stepsFrom
-step-stop gap [] p = λ i h. absurd (omega arith)
-step-stop gap (m ∷ ms) p =
-    go (isStop (m .column)) refl
-    (step-stop 0 ms (λ i l. p (suc i) (omega arith)))
-    (step-stop (gap + width (m .column)) ms (λ i l. p (suc i) (omega arith)))
-  where
-    go :
-        (t : Bool) → isStop (m .column) ≡ t → ToStops (stepsFrom isStop 0 ms) → ToStops (stepsFrom isStop (gap + width (m .column)) ms) →
-        ToStops (pick t (stepTo gap m ∷ stepsFrom isStop 0 ms) (stepsFrom isStop (gap + width (m .column)) ms))
-    go true e a b zero l = (e, p 0 (omega arith))
-    go true e a b (suc i) l = a i (omega arith)
-    go false e a b i l = b i l
-
-module _ (cs : List Column) (s : Bytes) (start : ℕ) (o : AreBytes s) where
-  -- a word that says a step of an original row
-  pub has-present :
-      length cs ≤ 64 → (word i : ℕ) → i < length (rowSteps cs) → Says word (getD (rowSteps cs) i noStep) →
-      hasWord false (mapBits s start) word i ≡ present (drop start s) (getD (rowSteps cs) i noStep .mark)
-  unfolding present
-  has-present few word i h y =
-      let m : Mark = getD (rowSteps cs) i noStep .mark in
-      let (t, k) = step-stop 0 (marks 0 cs) (mark-small cs few) i h in
-      let b : bitOfWord word % 64 ≡ m .bit = omega (arith, y .bit, k) in
-      rw (y .column, b, set-by s o start (m .bit) k) (by (isChapter (m .column)) refl t)
-    where
-      m : Mark
-      m = getD (rowSteps cs) i noStep .mark
-
-      x : Bool
-      x = pick (isNullable (m .column)) (eqb (bitIn (mapBits s start) (m .bit)) 1) true
-
-      by : (t : Bool) → isChapter (m .column) ≡ t → isStop (m .column) ≡ true → x ≡ pick t false x
-      by true e z = absurd (true≢false (sym z ∙ stop-chapter (m .column) e))
-      by false e z = refl
-
-  -- a column of update data
-  pub has-carried :
-      (word : ℕ) (c : Column) (i : ℕ) → i < 64 →
-      hasWord true (bitXor (mapBits s start) (bitAnd (mapBits s start) (mapBits s (start + updateBytes cs)))) word i ≡ carriedIn cs s start (mark c i)
-  unfolding carried
-  has-carried word c i h =
-      let u : ℕ = mapBits s start in
-      let f : ℕ = mapBits s (start + updateBytes cs) in
-      ap (λ (b : ℕ). eqb b 1) (without-bit u f i)
-      ∙ by (bitIn u i) (bitIn f i) (bit-small u i) (bit-small f i)
-      ∙ sym (carried-in cs s start (mark c i) ∙ rw (set-by s o start i h, set-by s o (start + updateBytes cs) i h) refl)
-    where
-      by : (a b : ℕ) → a ≤ 1 → b ≤ 1 → eqb (a * (1 - b)) 1 ≡ pick (eqb a 1) (not (eqb b 1)) false
-      by zero b g h = let z : 0 * (1 - b) ≡ 0 = omega arith in rw z refl
-      by (suc zero) zero g h = refl
-      by (suc zero) (suc zero) g h = refl
-      by (suc zero) (suc (suc b)) g h = absurd (omega arith)
-      by (suc (suc a)) b g h = absurd (omega arith)

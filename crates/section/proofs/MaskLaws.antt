@@ -2,7 +2,6 @@
 -- Assumes nothing.
 use Prim.Native.Nat.{ℕ, _+_, _*_, _-_, _/_, _%_, _^_, _<_, _≤_}
 use mathlib.Core.Path.{_≡_, refl, sym, ap, _∙_}
-use mathlib.Core.Logic.{_⊎_, inl, ⊎-elim, _≢_}
 use mathlib.Core.List.{List}
 use mathlib.Core.Bool.{Bool, true, false}
 use native.Mathlib.Omega.{arith}
@@ -11,6 +10,7 @@ use lib.ListN.{length, getD, set, length-set}
 use lib.Seq.{getD-set-same, getD-set-other}
 use lib.Pow.{shr-shr}
 use lib.Bits.{bitOr}
+use Rattle.wire.specs.Maps.{topBit}
 use Rattle.column.specs.declared.column.Column.{Column}
 use Rattle.column.specs.Columns.{isChapter}
 use Rattle.row.specs.Presence.{Mark, mark, noMark, marks, bitOf}
@@ -20,15 +20,15 @@ use Rattle.row.proofs.UpdateLaws.{length-numbered, number-at}
 use Rattle.schema.specs.Schemas.{asColumn}
 use Rattle.schema.specs.Table.{entryIn}
 use Rattle.section.specs.Shapes.{slotColumns}
-use Rattle.section.specs.Maps.{bitIn, BitAdded, isMarked, isNested, isUnforced, isAny, Masked, MasksAdded, AllMasked}
+use Rattle.section.specs.Maps.{BitAdded, isMarked, isNested, isUnforced, isAny, Masked, MasksAdded, AllMasked}
 use Rattle.section.proofs.Slots.{inSlots, length-slots, slot-asked}
-use Rattle.section.proofs.MapBits.{bit-small, or-bit}
+use Rattle.wire.proofs.MapBits.{bit-small, or-bit}
 
 -- One bit more in a mask.
 
 -- the bit that is shifted to place i
-pub bit-alone : (i : ℕ) → i < 64 → bitIn (9223372036854775808 / 2 ^ i) i ≡ 1
-unfolding bitIn
+pub bit-alone : (i : ℕ) → i < 64 → topBit (9223372036854775808 / 2 ^ i) i ≡ 1
+unfolding topBit
 bit-alone i h =
     let e : i + (63 - i) ≡ 63 = omega arith in
     ap (λ (n : ℕ). n % 2) (shr-shr 9223372036854775808 i (63 - i) ∙ ap (λ (k : ℕ). 9223372036854775808 / 2 ^ k) e)
@@ -45,7 +45,7 @@ bit-kept mask i f = record { kept = λ j l e. e; added = λ e. cc }
 
 -- the first n marks that pass a test have their bits in a mask
 abbrev pub CoversTo : (mask : ℕ) (test : Mark → Bool) (ms : List Mark) (n : ℕ) → Type 0
-CoversTo mask test ms n = (i : ℕ) → i < n → test (getD ms i noMark) ≡ true → bitIn mask (getD ms i noMark .bit) ≡ 1
+CoversTo mask test ms n = (i : ℕ) → i < n → test (getD ms i noMark) ≡ true → topBit mask (getD ms i noMark .bit) ≡ 1
 
 -- one mark more, with its column and its bit
 covers-next :
@@ -141,13 +141,10 @@ module _ (masks : List ℕ) (k p d u a : ℕ) where
   mask-3 : 4 * k + 3 < length masks → getD fourth (4 * k + 3) 0 ≡ a
   mask-3 h = getD-set-same third (4 * k + 3) a 0 (simp length-set h)
 
-  mask-others : (i : ℕ) → (i < 4 * k) ⊎ (4 * k + 4 ≤ i) → getD fourth i 0 ≡ getD masks i 0
+  mask-others : (i : ℕ) → i < 4 * k → getD fourth i 0 ≡ getD masks i 0
   mask-others i h =
-      getD-set-other third (4 * k + 3) i a 0 (apart 3 (omega arith)) ∙ getD-set-other second (4 * k + 2) i u 0 (apart 2 (omega arith))
-      ∙ getD-set-other first (4 * k + 1) i d 0 (apart 1 (omega arith)) ∙ getD-set-other masks (4 * k) i p 0 (omega (arith, apart 0 (omega arith)))
-    where
-      apart : (r : ℕ) → r < 4 → i ≢ 4 * k + r
-      apart r l = ⊎-elim (λ (x : i < 4 * k). omega arith) (λ (x : 4 * k + 4 ≤ i). omega arith) h
+      getD-set-other third (4 * k + 3) i a 0 (omega arith) ∙ getD-set-other second (4 * k + 2) i u 0 (omega arith)
+      ∙ getD-set-other first (4 * k + 1) i d 0 (omega arith) ∙ getD-set-other masks (4 * k) i p 0 (omega arith)
 
   pub mask-end : (cs : List Column) (n : ℕ) → Masking cs p d u a n → length cs ≤ n → 4 * k + 4 ≤ length masks → MasksAdded cs k masks fourth
   mask-end cs n m l room =
@@ -178,4 +175,4 @@ masks-kept {cs} {k} {old} {new} same m =
 pub masks-next :
     (slots : List ℕ) (k : ℕ) {old new : List ℕ} → AllMasked slots old k → MasksAdded (slotColumns slots k) k old new → AllMasked slots new (k + 1)
 masks-next slots k {old} {new} h a =
-    below-more _ k (λ j l. masks-kept (λ i x. a .others i (inl (omega arith))) (h j l)) (a .masked)
+    below-more _ k (λ j l. masks-kept (λ i x. a .others i (omega arith)) (h j l)) (a .masked)

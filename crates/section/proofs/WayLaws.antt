@@ -1,154 +1,248 @@
--- The way over a row's data: what a form and the words of a schema say of it, once the maps are checked.
+-- The way over a row's data: what a form, the words and the masks of a schema say of it.
 -- Assumes nothing.
-use Prim.Native.Nat.{ℕ, _+_, _*_, _<_, _≤_}
-use mathlib.Core.Path.{_≡_, sym, ap, _∙_}
-use mathlib.Core.List.{List}
-use mathlib.Core.Bool.{true, false}
+use Prim.Native.Nat.{ℕ, zero, suc, _+_, _*_, _-_, _/_, _%_, _^_, _<_, _≤_}
+use mathlib.Core.Path.{_≡_, refl, sym, ap, _∙_}
+use mathlib.Core.List.{List, [], _∷_}
+use mathlib.Core.Bool.{Bool, true, false, not}
+use native.Mathlib.Nat.{zero-div}
 use native.Mathlib.Omega.{arith}
-use lib.Dec.{eqb}
-use lib.Bits.{bitAnd, bitXor}
+use lib.Dec.{ltb, eqb}
+use lib.Bits.{bitAnd, bitOr, bitXor}
 use lib.ListN.{length, getD, drop}
-use borrow.Author.Tests.{eqb-true}
-use Rattle.wire.specs.declared.error.Error.{Error}
-use Rattle.wire.specs.declared.integer.IntRead.{IntRead}
-use Rattle.wire.specs.declared.integer.IntRead.the-variants as int
-use Rattle.wire.specs.Bits.{mapBytes}
-use Rattle.wire.specs.Integers.{toldInt}
-use Rattle.wire.specs.Read.{Bytes, AreBytes, ok, refused}
+use lib.Pow.{shr-shr}
+use borrow.Author.Tests.{lt-ltb, ltb-true}
+use Rattle.wire.specs.Bits.{mapBytes, bitSet}
+use Rattle.wire.specs.Maps.{mapBits, topBit}
+use Rattle.wire.specs.Read.{Bytes, AreBytes, ok, pick}
 use Rattle.column.specs.declared.column.Column.{Column}
-use Rattle.column.specs.Columns.{width, isStop}
-use Rattle.row.specs.Presence.{noColumn, mark, marks, present, chapterPresent, clear}
-use Rattle.row.specs.Rows.{opened}
+use Rattle.column.specs.Columns.{width, isNullable, isStop}
+use Rattle.column.specs.Stops.{Stop, noStop, stopOf, prefixOf, there}
+use Rattle.column.proofs.StopLaws.{stop-prefix}
+use Rattle.row.specs.Presence.{noColumn, one, nullables, presenceBytes, Mark, noMark, marks, bitOf}
+use Rattle.row.specs.Rows.{place, opened}
 use Rattle.row.specs.Updates.{numbered, updateBytes, updateOpened}
-use Rattle.row.proofs.Laws.{length-marks, map-few, end-closed}
-use Rattle.row.proofs.UpdateLaws.{update-end-closed}
-use Rattle.schema.specs.Schemas.{asColumn}
-use Rattle.schema.specs.Table.{schemaSlot, startIn, countIn, entryIn}
-use Rattle.section.specs.Steps.{noStep, stepTo, anyColumn, stepsFrom, leap}
-use Rattle.section.specs.Shapes.{columnOf, gapOf, widthOfWord, firstIn, stepsIn, tailIn, Says, SaysColumn, updateWords, slotColumns, rowSteps, Sound, Shaped}
-use Rattle.section.specs.Ways.{dataEnd, dataSteps, Leads, Led}
-use Rattle.section.specs.Maps.{mapBits, hasWord, Masked, AllMasked, Keeps}
-use Rattle.section.specs.Data.{mapRules}
-use Rattle.section.proofs.MapRules.{presence-kept, maps-kept, has-present, has-carried}
-use Rattle.section.proofs.Slots.{length-slots, slot-at, slot-bytes}
-use Rattle.section.proofs.Leap.{original-ends, update-ends, opened-start, update-start, steps-few, update-steps, update-step}
+use Rattle.row.specs.Leaps.{stopsFrom, tailFrom, anyColumn, carriedBit, leap}
+use Rattle.row.proofs.Laws.{bind-of, bit-next, bit-all, bit-below, bit-few, length-marks, mark-at, map-few}
+use Rattle.row.proofs.UpdateLaws.{length-numbered, number-at}
+use Rattle.row.proofs.Leap.{original-ends, update-ends, stops-few, update-stops}
+use Rattle.schema.specs.Table.{schemaSlot, startIn, countIn}
+use Rattle.section.specs.Shapes.{firstIn, stopsIn, mapIn, tailIn, alwaysIn, alwaysOf, updateWords, slotColumns, Formed, Sound, Shaped}
+use Rattle.section.specs.Ways.{dataOn, dataStops, Leads, Led, Shut}
+use Rattle.section.specs.Maps.{Masked, AllMasked, Keeps}
+use Rattle.wire.proofs.MapBits.{bit-small, or-bit, without-bit}
+use Rattle.section.proofs.MapRules.{set-by, row-opens, update-opens}
+use Rattle.section.proofs.Growth.{one-most}
+use Rattle.section.proofs.Slots.{length-slots, slot-bytes}
 
--- a column that a word says has its width
-word-width : (word : ℕ) (c : Column) → columnOf word ≡ c → widthOfWord word ≡ width c → widthOfWord word ≡ width (columnOf word)
-word-width word c e w = w ∙ ap width (sym e)
+-- what code asks of a stop: its bit says whether the field is there, its size is that of its prefix
+abbrev Fair : (on : ℕ → Bool) (bits : ℕ) → Stop → Type 0
+Fair on bits t = (topBit bits (t .bit) ≡ one (there on t)) × (t .variable ≡ true → t .size ≡ prefixOf t)
 
-module _ (slots words forms : List ℕ) (n k : ℕ) (s : Bytes) (start : ℕ) (sound : Sound slots n) (shaped : Shaped slots words forms n) (h : k < n) where
-  abbrev cs : List Column
-  cs = slotColumns slots k
+-- a stop of a column has the size of its prefix
+stop-sized : (free : Bool) (c : Column) (gap bit : ℕ) → stopOf free c gap bit .variable ≡ true → stopOf free c gap bit .size ≡ prefixOf (stopOf free c gap bit)
+unfolding stopOf
+stop-sized free c gap bit v = rw v (sym (stop-prefix free c gap bit))
 
-  abbrev slot : ℕ
-  slot = getD slots (schemaSlot k) 0
+-- what holds of the stops of all columns
+stops-all :
+    (P : Stop → Type 0) (free stop : Column → Bool) (gap : ℕ) (ms : List Mark) →
+    ((i : ℕ) → i < length ms → (g : ℕ) → P (stopOf (free (getD ms i noMark .column)) (getD ms i noMark .column) g (getD ms i noMark .bit))) →
+    (i : ℕ) → i < length (stopsFrom free stop gap ms) → P (getD (stopsFrom free stop gap ms) i noStop)
+unfolding stopsFrom
+stops-all P free stop gap [] h = λ i l. absurd (omega arith)
+stops-all P free stop gap (m ∷ ms) h =
+    go (stop (m .column)) (stops-all P free stop 0 ms (λ i l. h (suc i) (omega arith)))
+    (stops-all P free stop (gap + width (m .column)) ms (λ i l. h (suc i) (omega arith)))
+  where
+    go :
+        (t : Bool) → ((i : ℕ) → i < length (stopsFrom free stop 0 ms) → P (getD (stopsFrom free stop 0 ms) i noStop)) →
+        ((i : ℕ) → i < length (stopsFrom free stop (gap + width (m .column)) ms) → P (getD (stopsFrom free stop (gap + width (m .column)) ms) i noStop)) →
+        (i : ℕ) →
+        i < length (pick t (stopOf (free (m .column)) (m .column) gap (m .bit) ∷ stopsFrom free stop 0 ms) (stopsFrom free stop (gap + width (m .column)) ms)) →
+        P (getD (pick t (stopOf (free (m .column)) (m .column) gap (m .bit) ∷ stopsFrom free stop 0 ms) (stopsFrom free stop (gap + width (m .column)) ms)) i noStop)
+    go true a b zero l = h 0 (omega arith) gap
+    go true a b (suc i) l = a i (omega arith)
+    go false a b i l = b i l
 
-  abbrev form : ℕ
-  form = getD forms k 0
+-- Original rows: the lowest bit is set where some column is not nullable. Then it is no column's own.
 
-  long : length cs ≡ countIn slot
-  long = length-slots slots (startIn slot) (countIn slot)
+-- a column that is not nullable makes them fewer
+null-fewer : (cs : List Column) (i : ℕ) → i < length cs → isNullable (getD cs i noColumn) ≡ false → nullables cs < length cs
+unfolding nullables
+null-fewer [] i l e = absurd (omega arith)
+null-fewer (c ∷ cs) zero l e = rw e (omega (arith, bit-few cs (length cs), bit-all cs))
+null-fewer (c ∷ cs) (suc i) l e = omega (arith, null-fewer cs i (omega arith) e, one-most (isNullable c))
 
-  pub row-refused : (r : IntRead) (e : Error) → toldInt r ≡ opened cs s start → r ≡ int.Refused e → dataEnd false cs s start ≡ refused e
-  row-refused r e t g = end-closed cs s start (sym t ∙ ap toldInt g)
+-- a number that is a bit, by what was asked of it
+bit-one : (x : ℕ) → x ≤ 1 → x ≡ one (eqb x 1)
+bit-one zero h = refl
+bit-one (suc zero) h = refl
+bit-one (suc (suc n)) h = absurd (omega arith)
 
-  pub update-refused : (r : IntRead) (e : Error) → toldInt r ≡ updateOpened cs s start → r ≡ int.Refused e → dataEnd true cs s start ≡ refused e
-  update-refused r e t g = update-end-closed cs s start (sym t ∙ ap toldInt g)
+-- the lowest bit has no other bits
+low-only : (b : ℕ) → b < 63 → topBit 1 b ≡ 0
+unfolding topBit
+low-only b h =
+    let e : 63 - b ≡ 1 + (62 - b) = omega arith in
+    ap (λ (k : ℕ). 1 / 2 ^ k % 2) e ∙ ap (λ (n : ℕ). n % 2) (sym (shr-shr 1 1 (62 - b)) ∙ zero-div (2 ^ (62 - b)))
 
-  few : length cs ≤ 64
-  few = omega (arith, long, sound .few k h)
+module _ (cs : List Column) (s : Bytes) (start : ℕ) (o : AreBytes s) (few : length cs ≤ 64) where
+  abbrev rowBits : ℕ
+  rowBits = bitOr (mapBits s start) (alwaysOf cs)
 
-  -- a map of update data is short
-  pub map-short : mapBytes (countIn slot) ≤ 64
-  map-short = omega (arith, map-few (countIn slot), sound .few k h)
+  fair-free : (c : Column) (gap b : ℕ) → b < 64 → topBit (alwaysOf cs) b ≡ 0 → Fair (bitSet (drop start s)) rowBits (stopOf true c gap b)
+  unfolding stopOf
+  fair-free c gap b h z =
+      let m : ℕ = topBit (mapBits s start) b in
+      (rw (or-bit, set-by s o start b h, z) (omega (arith, bit-one m (bit-small (mapBits s start) b))), stop-sized true c gap b)
 
-  -- maps that the masks accept keep their rules
-  module _ (masks : List ℕ) (all : AllMasked slots masks n) (o : AreBytes s) where
-    pub row-kept :
-        {bits : ℕ} → bits ≡ mapBits s start → eqb (bitAnd bits (getD masks (4 * k) 0)) 0 ≡ true → clear (chapterPresent (drop start s)) 12 start (marks 0 cs) ≡ ok tt
-    row-kept {bits} e t =
-        let mask : ℕ = getD masks (4 * k) 0 in
-        presence-kept cs s o few start mask (all k h .present) (ap (λ (b : ℕ). bitAnd b mask) (sym e) ∙ eqb-true (bitAnd bits mask) 0 t)
+  fair-always : (c : Column) (gap b : ℕ) → alwaysOf cs ≡ 1 → Fair (bitSet (drop start s)) rowBits (stopOf false c gap b)
+  unfolding stopOf topBit
+  fair-always c gap b e =
+      let y : topBit 1 63 ≡ 1 = refl in
+      (rw (e, or-bit) (omega (arith, y, bit-small (mapBits s start) 63)), stop-sized false c gap b)
 
-    pub update-kept :
-        Keeps (mapBits s start) (mapBits s (start + mapBytes (countIn slot))) (getD masks (4 * k + 1) 0) (getD masks (4 * k + 2) 0) (getD masks (4 * k + 3) 0) →
-        mapRules cs s start ≡ ok tt
-    update-kept e =
+  -- the bit of a nullable column is not the lowest, where some column is not nullable
+  apart : (b : ℕ) → b < nullables cs → topBit (alwaysOf cs) b ≡ 0
+  unfolding topBit
+  apart b h = go (ltb (nullables cs) (length cs)) refl
+    where
+      go : (t : Bool) → ltb (nullables cs) (length cs) ≡ t → topBit (one t) b ≡ 0
+      go true e = low-only b (omega (arith, h, few, ltb-true (nullables cs) (length cs) e))
+      go false e = ap (λ (n : ℕ). n % 2) (zero-div (2 ^ (63 - b)))
+
+  row-fair : (i : ℕ) → i < length (dataStops false cs) → Fair (bitSet (drop start s)) rowBits (getD (dataStops false cs) i noStop)
+  row-fair = stops-all (Fair (bitSet (drop start s)) rowBits) isNullable isStop 0 (marks 0 cs) each
+    where
+      each :
+          (i : ℕ) → i < length (marks 0 cs) → (g : ℕ) →
+          Fair (bitSet (drop start s)) rowBits (stopOf (isNullable (getD (marks 0 cs) i noMark .column)) (getD (marks 0 cs) i noMark .column) g (getD (marks 0 cs) i noMark .bit))
+      each i l g =
+          let h : i < length cs = omega (arith, l, length-marks 0 cs) in
+          rw (mark-at cs i h) (go (isNullable (getD cs i noColumn)) refl h)
+        where
+          go :
+              (t : Bool) → isNullable (getD cs i noColumn) ≡ t → i < length cs →
+              Fair (bitSet (drop start s)) rowBits (stopOf t (getD cs i noColumn) g (bitOf cs i))
+          go true e h =
+              let b : bitOf cs i < nullables cs = omega (arith, bit-next cs i h, ap one e, bit-below cs (i + 1)) in
+              fair-free (getD cs i noColumn) g (bitOf cs i) (omega (arith, bit-few cs i)) (apart (bitOf cs i) b)
+          go false e h = fair-always (getD cs i noColumn) g (bitOf cs i) (ap one (lt-ltb _ _ (null-fewer cs i h e)))
+
+  -- Update data.
+  abbrev changedBits : ℕ
+  changedBits = bitXor (mapBits s start) (bitAnd (mapBits s start) (mapBits s (start + updateBytes cs)))
+
+  carried-fair : (c : Column) (gap b : ℕ) → b < 64 → Fair (carriedBit cs s start) changedBits (stopOf true c gap b)
+  unfolding stopOf carriedBit
+  carried-fair c gap b h =
+      let u : ℕ = mapBits s start in
+      let f : ℕ = mapBits s (start + updateBytes cs) in (
+        rw (without-bit, set-by s o start b h, set-by s o (start + updateBytes cs) b h) (by (topBit u b) (topBit f b) (bit-small u b) (bit-small f b)),
+        stop-sized true c gap b,
+      )
+    where
+      by : (a b : ℕ) → a ≤ 1 → b ≤ 1 → a * (1 - b) ≡ one (pick (eqb a 1) (not (eqb b 1)) false)
+      by zero b g h = let z : 0 * (1 - b) ≡ 0 = omega arith in rw z refl
+      by (suc zero) zero g h = refl
+      by (suc zero) (suc zero) g h = refl
+      by (suc zero) (suc (suc b)) g h = absurd (omega arith)
+      by (suc (suc a)) b g h = absurd (omega arith)
+
+  update-fair : (i : ℕ) → i < length (dataStops true cs) → Fair (carriedBit cs s start) changedBits (getD (dataStops true cs) i noStop)
+  update-fair = stops-all (Fair (carriedBit cs s start) changedBits) anyColumn anyColumn 0 (numbered 0 cs) each
+    where
+      each :
+          (i : ℕ) → i < length (numbered 0 cs) → (g : ℕ) →
+          Fair (carriedBit cs s start) changedBits (stopOf true (getD (numbered 0 cs) i noMark .column) g (getD (numbered 0 cs) i noMark .bit))
+      each i l g =
+          let h : i < length cs = omega (arith, l, length-numbered 0 cs) in
+          rw (number-at cs i h) (carried-fair (getD cs i noColumn) g i (omega arith))
+
+-- The way.
+
+pub way-shut : {s : Bytes} → length s ≤ 16777216 → Shut s (record { fields = 4294967296; first = 0; count = 0; tail = 0; bits = 0 })
+way-shut h = record { past = omega arith; none = refl; bare = refl; near = omega arith }
+
+module _
+    (slots words forms masks : List ℕ) (n k : ℕ) (s : Bytes) (start : ℕ) (sound : Sound slots n) (shaped : Shaped slots words forms n) (h : k < n)
+    (all : AllMasked slots masks n) (o : AreBytes s)
+  where
+    abbrev cs : List Column
+    cs = slotColumns slots k
+
+    abbrev slot : ℕ
+    slot = getD slots (schemaSlot k) 0
+
+    abbrev form : ℕ
+    form = getD forms k 0
+
+    long : length cs ≡ countIn slot
+    long = length-slots slots (startIn slot) (countIn slot)
+
+    few : length cs ≤ 64
+    few = omega (arith, long, sound .few k h)
+
+    -- a map of update data is short
+    pub map-short : mapBytes (countIn slot) ≤ 64
+    map-short = omega (arith, map-few (countIn slot), sound .few k h)
+
+    -- original row data whose map is whole and keeps the mask
+    pub row-way :
+        {bits : ℕ} → bits ≡ mapBits s start → bitAnd bits (getD masks (4 * k) 0) ≡ 0 → start + mapIn form ≤ length s →
+        Led words false cs s start (start + mapIn form) (firstIn form) (stopsIn form) (tailIn form) (bitOr bits (alwaysIn form))
+    row-way {bits} e m l =
+        let f : Formed words form cs = shaped .formed k h in
+        let q : opened cs s start ≡ ok (start + presenceBytes cs) =
+        row-opens cs s o few start (getD masks (4 * k) 0) (all k h .present) (rw (← e) m) (rw (← f .map) l) in
+        record {
+          ends = λ p n t.
+              let u : leap (bitSet (drop start s)) s (dataStops false cs) (tailFrom isStop 0 (marks 0 cs)) (place (start + presenceBytes cs) 0) ≡ ok (place p n) =
+              rw (← f .map, ← f .tail) t in
+              original-ends cs s start (start + presenceBytes cs) q ∙ bind-of _ u;
+          all = f .count;
+          few = omega (arith, f .count, stops-few isNullable isStop 0 (marks 0 cs), length-marks 0 cs, few);
+          within = omega (arith, f .inside, f .count, stops-few isNullable isStop 0 (marks 0 cs), length-marks 0 cs);
+          leads = λ i l. lead f i (omega (arith, f .count));
+          begins = l;
+          forward = omega arith;
+          small = omega arith;
+        }
+      where
+        lead :
+            Formed words form cs → (i : ℕ) → i < length (dataStops false cs) →
+            Leads (dataOn false cs s start) (bitOr bits (alwaysIn form)) (getD words (firstIn form + i) 0) (getD (dataStops false cs) i noStop)
+        lead f i l =
+            let (has, sized) = row-fair cs s start o few i l in
+            record { stop = f .stops i l; has = rw (f .always, e) has; sized = sized }
+
+    -- update data whose maps are whole and keep the masks
+    pub update-way :
+        {bits forced size : ℕ} → 1 ≤ k → size ≡ mapBytes (countIn slot) → bits ≡ mapBits s start → forced ≡ mapBits s (start + size) →
+        Keeps bits forced (getD masks (4 * k + 1) 0) (getD masks (4 * k + 2) 0) (getD masks (4 * k + 3) 0) → start + 2 * size ≤ length s →
+        Led words true cs s start (start + 2 * size) (updateWords + firstIn form) (countIn slot) 0 (bitXor bits (bitAnd bits forced))
+    update-way {bits} {forced} {size} top z e g keep l =
         let m : Masked masks k cs = all k h in
-        maps-kept cs s o few start (getD masks (4 * k + 1) 0) (getD masks (4 * k + 2) 0) (getD masks (4 * k + 3) 0) (m .chapters) (m .unforced) (m .all)
-        (rw (slot-bytes slots (startIn slot) (countIn slot)) e)
-
-  -- original row data that open
-  pub row-way :
-      AreBytes s → (r : IntRead) (fields : ℕ) → toldInt r ≡ opened cs s start → r ≡ int.Int fields →
-      Led words false cs s start fields (firstIn form) (stepsIn form) (tailIn form) (mapBits s start)
-  row-way o r fields t g =
-      let q : opened cs s start ≡ ok fields = sym t ∙ ap toldInt g in
-      let f = shaped .formed k h in
-      let (e, i) = opened-start cs s start fields q in
-      let c : stepsIn form ≡ length (rowSteps cs) = f .count in
-      record {
-        ends = original-ends cs s start fields q ∙ ap (λ (t : ℕ). leap (present (drop start s)) s (rowSteps cs) t fields) (sym (f .tail));
-        all = c;
-        few = omega (arith, steps-few isStop 0 (marks 0 cs), length-marks 0 cs, few);
-        inside = omega (arith, f .inside);
-        leads = λ i l. by i (omega arith) (f .steps i (omega arith));
-        begins = i;
-        forward = omega arith;
-        small = omega arith;
-      }
-    where
-      by :
-          (i : ℕ) → i < length (rowSteps cs) → Says (getD words (firstIn form + i) 0) (getD (rowSteps cs) i noStep) →
-          Leads false cs s start (mapBits s start) (getD words (firstIn form + i) 0) i (getD (rowSteps cs) i noStep)
-      by i l y =
-          record {
-            column = y .column;
-            gap = y .gap;
-            width = word-width _ _ (y .column) (y .width);
-            has = has-present cs s start o few (getD words (firstIn form + i) 0) i l y;
-          }
-
-  -- the bits of the columns that update data carry
-  abbrev carriedBits : ℕ
-  carriedBits = bitXor (mapBits s start) (bitAnd (mapBits s start) (mapBits s (start + mapBytes (countIn slot))))
-
-  -- update data that open
-  pub update-way :
-      AreBytes s → (r : IntRead) (fields : ℕ) → toldInt r ≡ updateOpened cs s start → r ≡ int.Int fields →
-      Led words true cs s start fields (256 + startIn slot) (countIn slot) 0 carriedBits
-  update-way o r fields t g =
-      let q : updateOpened cs s start ≡ ok fields = sym t ∙ ap toldInt g in
-      let (e, i) = update-start cs s start fields q in
-      let m : length (stepsFrom anyColumn 0 (numbered 0 cs)) ≡ countIn slot = update-steps cs ∙ long in
-      record {
-        ends = update-ends cs s start fields q;
-        all = sym m;
-        few = sound .few k h;
-        inside = omega (arith, sound .inside k h);
-        leads = λ i l. by i l (shaped .updates (startIn slot + i) (omega (arith, sound .inside k h)));
-        begins = i;
-        forward = omega arith;
-        small = omega arith;
-      }
-    where
-      by : (i : ℕ) → i < countIn slot → SaysColumn (getD words (updateWords + (startIn slot + i)) 0) (asColumn (entryIn (getD slots (startIn slot + i) 0))) →
-          Leads true cs s start carriedBits (getD words (256 + startIn slot + i) 0) i (getD (dataSteps true cs) i noStep)
-      by i l y =
-          let z : 256 + (startIn slot + i) ≡ 256 + startIn slot + i = omega arith in
-          let t : getD (dataSteps true cs) i noStep ≡ stepTo 0 (mark (getD cs i noColumn) i) = update-step cs i (omega (arith, long)) in
-          let w : ℕ = getD words (256 + startIn slot + i) 0 in
-          let v : getD words (updateWords + (startIn slot + i)) 0 ≡ w = ap (λ (x : ℕ). getD words x 0) z in
-          let at : asColumn (entryIn (getD slots (startIn slot + i) 0)) ≡ getD cs i noColumn = sym (slot-at slots (startIn slot) (countIn slot) i l) in
-          let c : columnOf w ≡ getD cs i noColumn = ap columnOf (sym v) ∙ y .column ∙ at in
-          let b : updateBytes cs ≡ mapBytes (countIn slot) = slot-bytes slots (startIn slot) (countIn slot) in
-          rw t
-          (record {
-            column = c;
-            gap = ap gapOf (sym v) ∙ y .gap;
-            width = word-width _ _ c (ap widthOfWord (sym v) ∙ y .width ∙ ap width at);
-            has =
-                ap (λ (n : ℕ). hasWord true (bitXor (mapBits s start) (bitAnd (mapBits s start) (mapBits s (start + n)))) w i) (sym b)
-                ∙ has-carried cs s start o w (getD cs i noColumn) i (omega (arith, sound .few k h));
-          })
+        let b : size ≡ updateBytes cs = z ∙ sym (slot-bytes slots (startIn slot) (countIn slot)) in
+        let q : updateOpened cs s start ≡ ok (start + 2 * updateBytes cs) =
+        update-opens cs s o few start (getD masks (4 * k + 1) 0) (getD masks (4 * k + 2) 0) (getD masks (4 * k + 3) 0) (m .chapters) (m .unforced) (m .all)
+        (rw (← e, ← b, ← g) keep) (rw (← b) l) in
+        record {
+          ends = λ p n t.
+              let u : leap (carriedBit cs s start) s (dataStops true cs) 0 (place (start + 2 * updateBytes cs) 0) ≡ ok (place p n) = rw (← b) t in
+              update-ends cs s start (start + 2 * updateBytes cs) q ∙ bind-of _ u;
+          all = sym long ∙ sym (update-stops cs);
+          few = sound .few k h;
+          within = omega (arith, shaped .formed k h .inside, long);
+          leads = λ i l. lead b i (omega (arith, update-stops cs, long));
+          begins = l;
+          forward = omega arith;
+          small = omega arith;
+        }
+      where
+        lead :
+            size ≡ updateBytes cs → (i : ℕ) → i < length (dataStops true cs) →
+            Leads (dataOn true cs s start) (bitXor bits (bitAnd bits forced)) (getD words (updateWords + firstIn form + i) 0) (getD (dataStops true cs) i noStop)
+        lead b i l =
+            let (has, sized) = update-fair cs s start o few i l in
+            record { stop = shaped .updates k h top i l; has = rw (g, e, b) has; sized = sized }

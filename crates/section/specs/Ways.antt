@@ -2,54 +2,69 @@
 -- Assumes nothing.
 use Prim.Native.Nat.{ℕ, _+_, _<_, _≤_}
 use mathlib.Core.Path.{_≡_}
+use mathlib.Core.Logic.{_⊎_}
 use mathlib.Core.List.{List}
 use mathlib.Core.Bool.{Bool, true, false}
 use lib.ListN.{length, getD, drop}
-use Rattle.wire.specs.Read.{Bytes, Read, refused}
+use Rattle.wire.specs.Read.{Bytes, Read, ok}
+use Rattle.wire.specs.Bits.{bitSet}
+use Rattle.wire.specs.Maps.{topBit}
 use Rattle.column.specs.declared.column.Column.{Column}
-use Rattle.column.specs.Columns.{width}
-use Rattle.row.specs.Presence.{Mark, present}
-use Rattle.row.specs.Rows.{rowEnd}
-use Rattle.row.specs.Updates.{numbered, carriedIn, updateEnd}
+use Rattle.column.specs.Columns.{isNullable, isStop}
+use Rattle.column.specs.Stops.{Stop, noStop, stopIn, prefixOf, there}
+use Rattle.row.specs.Presence.{one, marks}
+use Rattle.row.specs.Rows.{place, rowEnd}
+use Rattle.row.specs.Updates.{numbered, updateEnd}
+use Rattle.row.specs.Leaps.{stopsFrom, anyColumn, carriedBit, passed, leap}
 use Rattle.section.specs.declared.ways.Way.{Way}
-use Rattle.section.specs.declared.ways.Way.the-variants as way
-use Rattle.section.specs.Steps.{Step, noStep, anyColumn, stepsFrom, leap}
-use Rattle.section.specs.Shapes.{columnOf, gapOf, widthOfWord, rowSteps}
-use Rattle.section.specs.Maps.{hasWord}
 
 -- where row data end: update data where `update` says so, else original row data
 abbrev pub dataEnd : (update : Bool) → List Column → Bytes → ℕ → Read ℕ
 dataEnd true cs s start = updateEnd cs s start
 dataEnd false cs s start = rowEnd cs s start
 
--- whether the data hold a field for a column
-abbrev pub dataHas : (update : Bool) → List Column → Bytes → ℕ → Mark → Bool
-dataHas true cs s start = carriedIn cs s start
-dataHas false cs s start = present (drop start s)
+-- the bits that decide on their fields
+abbrev pub dataOn : (update : Bool) → List Column → Bytes → (start : ℕ) → ℕ → Bool
+dataOn true cs s start = carriedBit cs s start
+dataOn false cs s start = bitSet (drop start s)
 
--- the steps over the data
-abbrev pub dataSteps : (update : Bool) → List Column → List Step
-dataSteps true cs = stepsFrom anyColumn 0 (numbered 0 cs)
-dataSteps false cs = rowSteps cs
+-- the stops on the way over them
+abbrev pub dataStops : (update : Bool) → List Column → List Stop
+dataStops true cs = stopsFrom anyColumn anyColumn 0 (numbered 0 cs)
+dataStops false cs = stopsFrom isNullable isStop 0 (marks 0 cs)
 
--- a word leads to a step of the data, by the bits of their map
-pub record Leads (update : Bool) (cs : List Column) (s : Bytes) (start bits : ℕ) (word number : ℕ) (t : Step) : Type 0 where
-  pub column : columnOf word ≡ t .mark .column
-  pub gap : gapOf word ≡ t .gap
-  pub width : widthOfWord word ≡ width (columnOf word)
-  pub has : hasWord update bits word number ≡ dataHas update cs s start (t .mark)
+-- a word leads over a stop, by these bits
+pub record Leads (on : ℕ → Bool) (bits word : ℕ) (t : Stop) : Type 0 where
+  pub stop : stopIn word ≡ t
+  pub has : topBit bits (t .bit) ≡ one (there on t)
+  pub sized : t .variable ≡ true → t .size ≡ prefixOf t
 
--- The data that start at `start` open, and `count` words from `first` on lead from `fields` over them, `tail` bytes behind the last one.
+-- The data that start at `start` may open, and `count` words from `first` on lead from `fields` over them, `tail` bytes behind the last one:
+-- where the leap by these ends, the data end.
 pub record Led (words : List ℕ) (update : Bool) (cs : List Column) (s : Bytes) (start fields first count tail bits : ℕ) : Type 0 where
-  pub ends : dataEnd update cs s start ≡ leap (dataHas update cs s start) s (dataSteps update cs) tail fields
-  pub all : count ≡ length (dataSteps update cs)
+  pub ends :
+      (p n : ℕ) → leap (dataOn update cs s start) s (dataStops update cs) tail (place fields 0) ≡ ok (place p n) → dataEnd update cs s start ≡ ok p
+  pub all : count ≡ length (dataStops update cs)
   pub few : count ≤ 64
-  pub inside : first + count ≤ 512
-  pub leads : (i : ℕ) → i < count → Leads update cs s start bits (getD words (first + i) 0) i (getD (dataSteps update cs) i noStep)
+  pub within : first + count ≤ 512
+  pub leads : (i : ℕ) → i < count → Leads (dataOn update cs s start) bits (getD words (first + i) 0) (getD (dataStops update cs) i noStop)
   pub begins : fields ≤ length s
   pub forward : start ≤ fields
   pub small : tail < 65536
 
+-- a way that is shut leads past the input
+pub record Shut (s : Bytes) (w : Way) : Type 0 where
+  pub past : length s < w .fields
+  pub none : w .count ≡ 0
+  pub bare : w .tail ≡ 0
+  pub near : w .fields ≤ 8589934592
+
 abbrev pub WayIs : (words : List ℕ) (update : Bool) → List Column → Bytes → (start : ℕ) → Way → Type 0
-WayIs words update cs s start (way.Open fields first count tail bits) = Led words update cs s start fields first count tail bits
-WayIs words update cs s start (way.Refused e) = dataEnd update cs s start ≡ refused e
+WayIs words update cs s start w = Led words update cs s start (w .fields) (w .first) (w .count) (w .tail) (w .bits) ⊎ Shut s w
+
+-- Over one stop from `at`, by its word: past it, or 0, which says nothing.
+abbrev pub PassedTo : (word bits : ℕ) → Bytes → (at r : ℕ) → Type 0
+PassedTo word bits s at r =
+    (r ≡ 0)
+    ⊎ ((at ≤ r)
+    × ((on : ℕ → Bool) → Leads on bits word (stopIn word) → (n : ℕ) → (m : ℕ) × (passed on s (stopIn word) (place at n) ≡ ok (place r m))))

@@ -2,9 +2,8 @@
 // Rows are read by words, forms and masks that are made of the schemas once a call.
 
 mod children;
-mod data;
+mod ends;
 mod heads;
-mod maps;
 mod masks;
 mod notes;
 pub mod read;

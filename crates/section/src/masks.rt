@@ -7,10 +7,9 @@ ghost use mathlib.Core.List.{map};
 ghost use Rattle.schema.specs.Schemas.{asColumn};
 ghost use Rattle.schema.specs.Table.{entriesIn};
 ghost use Rattle.row.specs.Presence.{mark};
-ghost use Rattle.section.specs.Shapes.{Sound};
-ghost use Rattle.section.specs.Maps.{BitAdded, MasksAdded, AllMasked, Keeps, isMarked, isUnforced};
-use crate::data::column_in;
+ghost use Rattle.section.specs.Maps.{BitAdded, MasksAdded, Keeps, isMarked, isUnforced};
 use column::column::Column;
+use column::packed::unpack;
 use row::rows::one;
 
 // A mask with bit `i` set where `on` says so.
@@ -45,7 +44,13 @@ fn is_unforced(column: Column) -> bool
 }
 
 // The masks of schema `k`, whose columns are in `count` slots.
-fn add_masks(slots: &[u64; 512], first: usize, count: usize, k: usize, masks: &mut [u64; 1024])
+pub(crate) fn add_masks(
+    slots: &[u64; 512],
+    first: usize,
+    count: usize,
+    k: usize,
+    masks: &mut [u64; 1024],
+)
     requires { ⌜ (first + count ≤ 256) × (count ≤ 64) × (k < 256) × (length (now masks) ≡ 1024) ⌝ }
     ensures { λ r. ⌜ MasksAdded (map asColumn (entriesIn first count (now (slots .entry)))) k (now (masks .entry)) (now (masks .exit)) ⌝ }
 {
@@ -56,7 +61,7 @@ fn add_masks(slots: &[u64; 512], first: usize, count: usize, k: usize, masks: &m
     let mut bit = 0;
     let mut i = 0;
     while i < count {
-        let column = column_in(slots[first + i]);
+        let column = unpack(slots[first + i] as usize);
         present = with_bit(present, bit, is_marked(column));
         chapters = with_bit(chapters, i, column.is_chapter());
         unforced = with_bit(unforced, i, is_unforced(column));
@@ -70,22 +75,7 @@ fn add_masks(slots: &[u64; 512], first: usize, count: usize, k: usize, masks: &m
     masks[4 * k + 3] = all;
 }
 
-// The masks of all schemas in a table of slots.
-pub(crate) fn all_masks(slots: &[u64; 512], schemas: usize, masks: &mut [u64; 1024])
-    requires { ⌜ Sound (now slots) schemas × (length (now masks) ≡ 1024) ⌝ }
-    ensures { λ r. ⌜ AllMasked (now (slots .entry)) (now (masks .exit)) schemas ⌝ }
-{
-    let mut k = 0;
-    while k < schemas {
-        let slot = slots[256 + k];
-        let first = (slot % 65_536) as usize;
-        let count = (slot / 65_536 % 65_536) as usize;
-        add_masks(slots, first, count, k, masks);
-        k += 1;
-    }
-}
-
-// Whether the two maps of update data keep their rules by the masks of their columns. Where they do not, the columns say which is broken.
+// Whether the two maps of update data keep their rules, by the masks of their columns.
 pub(crate) fn keeps(updated: u64, forced: u64, chapters: u64, unforced: u64, all: u64) -> bool
     ensures { λ r. ⌜ (r ≡ true → Keeps updated forced chapters unforced all) ⌝ }
 {

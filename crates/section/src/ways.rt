@@ -1,35 +1,33 @@
-// The way over one row's data: the words that lead over them, once their maps are checked.
+// The way over one row's data: the words that lead over them, where their maps keep all rules.
 ghost use Prim.Native.Nat.{_<_, _≤_};
 ghost use lib.ListN.{length};
 ghost use Rattle.section.specs.Shapes.{Sound, Shaped, slotColumns};
 ghost use Rattle.section.specs.Maps.{AllMasked};
 ghost use Rattle.section.specs.Ways.{WayIs};
-use crate::data::open_original;
-use crate::data::open_update;
-use crate::maps::bits_at;
 use crate::masks::keeps;
+use crate::shapes::UPDATES;
 use wire::bits::map_bytes;
-use wire::error::Error;
-use wire::integer::IntRead;
+use wire::maps::bits_at;
 
-// Data that open: where their fields start, the words that lead over them, the bytes behind the last word's field, and the bits that say
-// which fields they have.
-pub enum Way {
-    Open {
-        fields: usize,
-        first: usize,
-        count: usize,
-        tail: usize,
-        bits: u64,
-    },
-    Refused(Error),
+// A place past every section.
+pub(crate) const FAR: usize = 4_294_967_296;
+
+// Where the fields of data start, the words that lead over them, the bytes behind the last word's field, and the bits that say which fields
+// the data have. A way that is shut starts past the section and has no words.
+pub struct Way {
+    pub fields: usize,
+    pub first: usize,
+    pub count: usize,
+    pub tail: usize,
+    pub bits: u64,
 }
 
-// The way over the data at `start` of a row of schema `number`: of update data where `update` says so.
+// The way over the data at `start` of a row of schema `number`: of update data where `update` says so. It is shut where a map is not whole or
+// breaks a rule, which the columns then say.
 pub(crate) fn way_over<'a>(
     slots: &'a [u64; 512],
-    words: &'a [u64; 512],
-    forms: &'a [u64; 256],
+    words: &'a [usize; 512],
+    forms: &'a [usize; 256],
     masks: &'a [u64; 1024],
     schemas: usize,
     number: usize,
@@ -40,37 +38,49 @@ pub(crate) fn way_over<'a>(
     requires { ⌜ Sound (now slots) schemas × Shaped (now slots) (now words) (now forms) schemas × (number < schemas) × AllMasked (now slots) (now masks) schemas × (start ≤ length (now section)) × (length (now section) ≤ 16777216) ⌝ }
     ensures { λ r. ⌜ WayIs (now (words .entry)) update (slotColumns (now (slots .entry)) number) (now (section .entry)) start r ⌝ }
 {
-    let slot = slots[256 + number];
-    let first = (slot % 65_536) as usize;
-    let count = (slot / 65_536 % 65_536) as usize;
     let form = forms[number];
     let bits = bits_at(section, start);
     if update {
-        let forced = bits_at(section, start + map_bytes(count));
+        let count = (slots[256 + number] / 65_536 % 65_536) as usize;
+        let size = map_bytes(count);
+        let fields = start + 2 * size;
+        let forced = bits_at(section, start + size);
         let chapters = masks[4 * number + 1];
         let unforced = masks[4 * number + 2];
         let kept = keeps(bits, forced, chapters, unforced, masks[4 * number + 3]);
-        return match open_update(slots, first, count, kept, section, start) {
-            IntRead::Refused(e) => Way::Refused(e),
-            IntRead::Int(fields) => Way::Open {
-                fields,
-                first: 256 + first,
-                count,
-                tail: 0,
-                bits: bits ^ (bits & forced),
-            },
-        };
+        if 0 < number {
+            if fields <= section.len() {
+                if kept {
+                    return Way {
+                        fields,
+                        first: UPDATES + form % 65_536,
+                        count,
+                        tail: 0,
+                        bits: bits ^ (bits & forced),
+                    };
+                }
+            }
+        }
+    } else {
+        let fields = start + form / 16_777_216 % 256;
+        let clear = bits & masks[4 * number];
+        if fields <= section.len() {
+            if clear == 0 {
+                return Way {
+                    fields,
+                    first: form % 65_536,
+                    count: form / 65_536 % 256,
+                    tail: form / 4_294_967_296 % 65_536,
+                    bits: bits | (form / 281_474_976_710_656) as u64,
+                };
+            }
+        }
     }
-    let size = (form / 16_777_216 % 256) as usize;
-    let clear = bits & masks[4 * number] == 0;
-    match open_original(slots, first, count, size, clear, section, start) {
-        IntRead::Refused(e) => Way::Refused(e),
-        IntRead::Int(fields) => Way::Open {
-            fields,
-            first: (form % 65_536) as usize,
-            count: (form / 65_536 % 256) as usize,
-            tail: (form / 4_294_967_296 % 65_536) as usize,
-            bits,
-        },
+    Way {
+        fields: FAR,
+        first: 0,
+        count: 0,
+        tail: 0,
+        bits: 0,
     }
 }

@@ -26,8 +26,8 @@ add-bit c =
     let pre = c .before .before .before .before .before .before .before .before .before .before .before .before .before .pre in
     let loop = c .before .before .before .before .before .before .before .before .before .before .before .before .loop in
     let loop-test = c .before .before .before .before .before .before .before .before .before .before .before .loop-test in
-    let column-in = c .before .before .before .before .before .before .before .before .before .column-in in
-    let b = slot-bit (args .slots .now) (args .first) (args .count) (loop .i) (loop .bit) (column-in .result) (loop-test .taken) (loop .inv .2) (column-in .ensures) (c .before .is-nullable .ensures) (c .one .ensures) in omega (arith, b .1, loop-test .taken, pre)
+    let unpack = c .before .before .before .before .before .before .before .before .before .unpack in
+    let b = slot-bit (args .slots .now) (args .first) (args .count) (loop .i) (loop .bit) (unpack .result) (loop-test .taken) (loop .inv .2) (unpack .ensures) (c .before .is-nullable .ensures) (c .one .ensures) in omega (arith, b .1, loop-test .taken, pre)
 
 loop-again : tie.Need-loop-again Inv-loop μ-loop
 loop-again c =
@@ -35,7 +35,7 @@ loop-again c =
     let pre = c .before .before .before .before .before .before .before .before .before .before .before .before .before .pre in
     let loop = c .before .before .before .before .before .before .before .before .before .before .before .before .loop in
     let loop-test = c .before .before .before .before .before .before .before .before .before .before .before .loop-test in
-    let column-in = c .before .before .before .before .before .before .before .before .before .column-in in
+    let unpack = c .before .before .before .before .before .before .before .before .before .unpack in
     let is-marked = c .before .before .before .before .before .before .before .before .is-marked in
     let with-bit = c .before .before .before .before .before .before .before .with-bit in
     let is-chapter = c .before .before .before .before .before .before .is-chapter in
@@ -43,8 +43,8 @@ loop-again c =
     let is-unforced = c .before .before .before .before .is-unforced in
     let with-bit3 = c .before .before .before .with-bit3 in
     let with-bit4 = c .before .before .with-bit4 in
-    let b = slot-bit (args .slots .now) (args .first) (args .count) (loop .i) (loop .bit) (column-in .result) (loop-test .taken) (loop .inv .2) (column-in .ensures) (c .before .is-nullable .ensures) (c .one .ensures) in
-    (search needs, b .1, b .0, mask-next (args .slots .now) (args .first) (args .count) (loop .i) (column-in .result) (pre .1) (loop-test .taken) (column-in .ensures) (loop .inv .3) (loop .inv .2) (is-marked .ensures) (with-bit .ensures) (is-chapter .ensures) (with-bit2 .ensures) (is-unforced .ensures) (with-bit3 .ensures) (with-bit4 .ensures))
+    let b = slot-bit (args .slots .now) (args .first) (args .count) (loop .i) (loop .bit) (unpack .result) (loop-test .taken) (loop .inv .2) (unpack .ensures) (c .before .is-nullable .ensures) (c .one .ensures) in
+    (search needs, b .1, b .0, mask-next (args .slots .now) (args .first) (args .count) (loop .i) (unpack .result) (pre .1) (loop-test .taken) (unpack .ensures) (loop .inv .3) (loop .inv .2) (is-marked .ensures) (with-bit .ensures) (is-chapter .ensures) (with-bit2 .ensures) (is-unforced .ensures) (with-bit3 .ensures) (with-bit4 .ensures))
 
 returns : tie.Need-returns Inv-loop μ-loop
 returns c =
