@@ -13,20 +13,20 @@ use borrow.Author.Tests.{eqb-true, eqb-false}
 use Rattle.wire.specs.Read.{Bytes, AreBytes, Read, ok, bad, pick}
 use Rattle.wire.specs.Output.{put}
 use Rattle.wire.proofs.Pieces.{ok-ok, bad-ok}
-use Rattle.column.specs.declared.column.Column.{Column}
 use Rattle.schema.specs.Schemas.{Schema}
 use Rattle.grammar.specs.Grammar.{columnsAt, Row, entry}
 use Rattle.grammar.specs.Reader.{Token, parentToken, childToken, changeToken, deleteToken, doneToken, unknownToken, tokenOf, idAt, section}
 use Rattle.grammar.specs.Pending.{Pending, nothing, child-row, beforeOf, flush}
-use Rattle.grammar.proofs.Ends.{row-ends, update-ends}
 use Rattle.grammar.proofs.Pending.{rows-are-section}
+use Rattle.section.specs.declared.table.Entry.{Entry}
+use Rattle.section.specs.declared.table.Size.{Size}
 use Rattle.section.specs.Heads.{HeadAt, headAt}
-use Rattle.section.specs.Table.{rowNumbers}
+use Rattle.section.specs.Table.{rowNumbers, SmallRow}
 use Rattle.section.specs.Scan.{laidFrom, Filled}
-use Rattle.section.specs.Sizes.{endBy, placeIn, placeOf, sizeOf, noteBytes, noteOf, NotedAs, in-one, in-three, NotedOr0, Accepted, kindBy}
+use Rattle.section.specs.Sizes.{endBy, placeIn, placeOf, sizeOf, noteBytes, noteOf, NotedAs, in-one, in-three, NotedOr0, Accepted, NotedThere, NotedIs, kindBy, startBy, rowBy, EntryAt}
 use Rattle.section.specs.Ways.{dataEnd}
 use Rattle.section.proofs.Turns.{HeadTold, told-done, told-delete, told-parent, told-child, told-change}
-use Rattle.section.proofs.Scan.{allRows, AtElement, Begun, at-start, told, head-refused, head-done, deleted, Ahead, head-ahead, data-refused, row-ended, change-ended, table-long}
+use Rattle.section.proofs.Scan.{allRows, AtElement, Begun, at-start, told, head-refused, head-done, deleted, Ahead, head-ahead, data-refused, data-inside, row-ended, change-ended, table-long}
 use Rattle.section.proofs.Noting.{bytes-one, bytes-three, data-ends, delete-ends}
 
 -- the byte of a token
@@ -66,10 +66,6 @@ byte-of t k e = rw e at (byte-is t)
 not-done : {k : Token} → k ≡ doneToken → ElseIs k → ⊥
 not-done {k} e x = rw e at x
 
-data-inside : (u : Bool) (cs : List Column) (s : Bytes) (start e : ℕ) → dataEnd u cs s start ≡ ok e → (start ≤ e) × (e ≤ length s)
-data-inside true cs s start e q = update-ends cs s start e q
-data-inside false cs s start e q = row-ends cs s start e q
-
 -- What the element at `at` of a section comes to, by the byte of its token: the numbers of its row, where it ends, and what holds behind it.
 pub record Taken (S : List Schema) (s : Bytes) (entry₀ table : List ℕ) (at rows origin : ℕ) (token : ℕ) : Type 0 where
   pub end : ℕ
@@ -77,16 +73,11 @@ pub record Taken (S : List Schema) (s : Bytes) (entry₀ table : List ℕ) (at r
   pub onward : at < end
   pub some : 1 ≤ rows + (1 - kindBy token / 3)
   pub whole : 1 ≤ token / 128 → at + 5 ≤ length s
-  pub begins : at + 1 + 4 * (token / 128) ≤ length s
+  pub begins : startBy at token ≤ length s
   pub pending : Pending
-  pub begun : Begun pending (pick (eqb (kindBy token / 3) 0) (at + 1 + 4 * (token / 128)) origin)
+  pub begun : Begun pending (rowBy s at origin token .original)
   pub element :
-      AtElement S s entry₀
-      (put table (4 * (rows + (1 - kindBy token / 3) - 1))
-      (rowNumbers
-      (entry (kindBy token) (pick (eqb (token / 128) 0) 0 (idAt s at)) (pick (eqb (kindBy token / 3) 0) (at + 1 + 4 * (token / 128)) origin)
-      (pick (eqb (kindBy token % 4 / 3) 0) 0 (at + 1 + 4 * (token / 128))))))
-      end (rows + (1 - kindBy token / 3)) pending
+      AtElement S s entry₀ (put table (4 * (rows + (1 - kindBy token / 3) - 1)) (rowNumbers (rowBy s at origin token))) end (rows + (1 - kindBy token / 3)) pending
 
 nothing-begun : (origin : ℕ) → Begun nothing origin
 nothing-begun origin id start e = let z : _≡_ {A = ℕ} 0 1 = cc in absurd (omega arith)
@@ -182,7 +173,7 @@ module _ (S : List Schema) (s : Bytes) (entry₀ table : List ℕ) (at rows orig
             begins = rw m l;
             pending = nothing;
             begun = nothing-begun _;
-            element = rw (g, m, z) (row-ended S s entry₀ table at rows p a x h refl q y v);
+            element = rw (g, m, z) (row-ended S s entry₀ table at rows p a x h refl q);
           })
       by (told-child {k = k} {id = id} {start = start} i c j u l) e =
           let t : getD s at 0 ≡ 0x87 = byte-of _ childToken i in
@@ -203,7 +194,7 @@ module _ (S : List Schema) (s : Bytes) (entry₀ table : List ℕ) (at rows orig
             begins = rw m l;
             pending = child-row id start;
             begun = rw m (child-begun id start);
-            element = rw (g, m, z, ← j) (row-ended S s entry₀ table at rows p a x h refl q y v);
+            element = rw (g, m, z, ← j) (row-ended S s entry₀ table at rows p a x h refl q);
           })
       by (told-change {k = k} {id = id} {start = start} i d c j u l) e =
           let t : getD s at 0 ≡ 0x8A = byte-of _ changeToken i in
@@ -211,7 +202,7 @@ module _ (S : List Schema) (s : Bytes) (entry₀ table : List ℕ) (at rows orig
           let (x, q) = data-there h in
           let (y, v) = data-inside true (columnsAt S k) s start x q in
           let f : endBy S s at (tokenOf (getD s at 0)) ≡ ok x = data-ends S s (beforeOf p) at (told S s entry₀ table at rows p a _ e) q in
-          let (m, w) = change-ended S s entry₀ table at rows p a x origin b h refl q y v in
+          let (m, w) = change-ended S s entry₀ table at rows p a x origin b h refl q in
           let g : rows + (1 - kindBy 0x8A / 3) ≡ rows = omega arith in
           let n : at + 1 + 4 * (0x8A / 128) ≡ start = omega arith in
           rw t
@@ -293,121 +284,95 @@ module _ (s : Bytes) (sizes : List ℕ) (a : Accepted s sizes) (entry₀ table :
     pub size-noted : NotedAs sizes i (fill-taken .end - at)
     size-noted = rw (← f .next, size-same) at (a .all .noted (f .elements) more)
 
-    -- the numbers of its row
-    abbrev pub token : ℕ
-    token = getD s at 0
+    -- The entry that code makes, and the size that it reads.
+    module _ (e : Entry) (same : EntryAt s at origin e) where
+      abbrev row : Row
+      row = entry (e .kind) (e .id) (e .original) (e .update)
 
-    abbrev pub startOf : ℕ
-    startOf = at + 1 + 4 * (token / 128)
+      row-same : row ≡ rowBy s at origin (getD s at 0)
+      row-same = same .same (fill-taken .whole)
 
-    abbrev pub originOf : ℕ
-    originOf = pick (eqb (kindBy token / 3) 0) startOf origin
+      pub row-some : 1 ≤ rows + (1 - e .kind / 3)
+      row-some = rw (same .kind) (fill-taken .some)
 
-    abbrev pub tableOf : List ℕ
-    tableOf =
-        put table (4 * (rows + (1 - kindBy token / 3) - 1))
-        (rowNumbers (entry (kindBy token) (pick (eqb (token / 128) 0) 0 (idAt s at)) originOf (pick (eqb (kindBy token % 4 / 3) 0) 0 startOf)))
+      pub row-fits : length s ≤ 16777216 → (rows + (1 - e .kind / 3) - 1 ≤ 16777216) × SmallRow row
+      row-fits l = (omega (arith, f .element .few, f .element .inside), same .small)
 
-    origin-low : (b : Bool) → pick b startOf origin ≤ length s
-    origin-low true = fill-taken .begins
-    origin-low false = f .low
+      module _ (m : Size) (reads : NotedIs sizes i m) where
+        pub size-onward : (at < at + m .bytes) × (at + m .bytes ≤ length s)
+        size-onward =
+            let z : m .bytes ≡ fill-taken .end - at = reads _ size-noted .0 in
+            (omega (arith, fill-taken .onward), omega (arith, fill-taken .onward, fill-taken .element .inside))
 
-    fill-next : (e j : ℕ) → e ≡ fill-taken .end → j ≡ i + noteBytes (fill-taken .end - at) →
-        AtFill s sizes a entry₀ tableOf e (rows + (1 - kindBy token / 3)) originOf j
-    unfolding noteOf
-    fill-next e j q r =
-        record {
-          pending = fill-taken .pending;
-          element = rw q (fill-taken .element);
-          begun = fill-taken .begun;
-          low = origin-low (eqb (kindBy token / 3) 0);
-          elements = suc (f .elements);
-          few = more;
-          place = q ∙ place-next;
-          next =
-              r ∙ ap (λ (x : ℕ). x + noteBytes (fill-taken .end - at)) (f .next)
-              ∙ ap (λ (x : ℕ). noteOf S s (f .elements) + noteBytes x) (sym size-same);
-        }
+        original-low : (b : Bool) → pick b (startBy at (getD s at 0)) origin ≤ length s
+        original-low true = fill-taken .begins
+        original-low false = f .low
 
-    -- a size in one byte
-    pub fill-one : getD sizes i 0 < 255 → AtFill s sizes a entry₀ tableOf (at + getD sizes i 0) (rows + (1 - kindBy token / 3)) originOf (i + 1)
-    fill-one h = by size-noted
-      where
-        by : NotedAs sizes i (fill-taken .end - at) → AtFill s sizes a entry₀ tableOf (at + getD sizes i 0) (rows + (1 - kindBy token / 3)) originOf (i + 1)
-        by (in-one x y l) =
-            let z : at + getD sizes i 0 ≡ fill-taken .end = omega (arith, y, fill-taken .onward) in
-            let m : noteBytes (fill-taken .end - at) ≡ 1 = bytes-one _ x in
-            fill-next _ _ z (ap (λ (x : ℕ). i + x) (sym m))
-        by (in-three x y v l) = absurd (omega (arith, h, y))
+        pub fill-next : AtFill s sizes a entry₀ (put table (4 * (rows + (1 - e .kind / 3) - 1)) (rowNumbers row)) (at + m .bytes) (rows + (1 - e .kind / 3)) (e .original) (m .next)
+        unfolding noteOf
+        fill-next =
+            let (z, y) = reads _ size-noted in
+            let q : at + m .bytes ≡ fill-taken .end = omega (arith, z, fill-taken .onward) in
+            let g : e .original ≡ rowBy s at origin (getD s at 0) .original = ap (λ (r : Row). r .original) row-same in
+            record {
+              pending = fill-taken .pending;
+              element = rw (q, row-same, same .kind) (fill-taken .element);
+              begun = rw g (fill-taken .begun);
+              low = rw g (original-low (eqb (kindBy (getD s at 0) / 3) 0));
+              elements = suc (f .elements);
+              few = more;
+              place = q ∙ place-next;
+              next = y ∙ rw (← size-same, f .next) refl;
+            }
 
-    -- a size in three
-    pub fill-three : 255 ≤ getD sizes i 0 →
-        (i + 2 < length sizes)
-        × AtFill s sizes a entry₀ tableOf (at + (256 * getD sizes (i + 1) 0 + getD sizes (i + 2) 0)) (rows + (1 - kindBy token / 3)) originOf (i + 3)
-    fill-three h = by size-noted
-      where
-        by : NotedAs sizes i (fill-taken .end - at) →
-            (i + 2 < length sizes)
-            × AtFill s sizes a entry₀ tableOf (at + (256 * getD sizes (i + 1) 0 + getD sizes (i + 2) 0)) (rows + (1 - kindBy token / 3)) originOf (i + 3)
-        by (in-one x y l) = absurd (omega (arith, h, x, y))
-        by (in-three x y v l) =
-            let z : at + (256 * getD sizes (i + 1) 0 + getD sizes (i + 2) 0) ≡ fill-taken .end = omega (arith, v, fill-taken .onward) in
-            let m : noteBytes (fill-taken .end - at) ≡ 3 = bytes-three _ x in
-            (l, fill-next _ _ z (ap (λ (x : ℕ). i + x) (sym m)))
+-- What is read at a size that was noted.
+module _ (sizes : List ℕ) (i : ℕ) where
+  pub noted-inside : NotedThere sizes i → i < length sizes
+  noted-inside (n, in-one x y l) = l
+  noted-inside (n, in-three x y v l) = omega (arith, l)
 
-    -- a size takes the pass on, inside the section
-    pub one-onward : (z : ℕ) → z ≡ getD sizes i 0 → z < 255 → at < at + z
-    one-onward z e h = by size-noted
-      where
-        by : NotedAs sizes i (fill-taken .end - at) → at < at + z
-        by (in-one x y l) = omega (arith, e, y, fill-taken .onward)
-        by (in-three x y v l) = absurd (omega (arith, h, e, y))
+  pub noted-three : NotedThere sizes i → 255 ≤ getD sizes i 0 → i + 2 < length sizes
+  noted-three (n, in-one x y l) h = absurd (omega (arith, h, x, y))
+  noted-three (n, in-three x y v l) h = l
 
-    pub three-onward : (x y z : ℕ) → x ≡ getD sizes i 0 → y ≡ getD sizes (i + 1) 0 → z ≡ getD sizes (i + 2) 0 → 255 ≤ x →
-        (at < at + (256 * y + z)) × (at + (256 * y + z) ≤ length s)
-    three-onward x y z p q r h = by size-noted
-      where
-        by : NotedAs sizes i (fill-taken .end - at) → (at < at + (256 * y + z)) × (at + (256 * y + z) ≤ length s)
-        by (in-one a b l) = absurd (omega (arith, h, p, a, b))
-        by (in-three a b v l) =
-            let w : 256 * y + z ≡ fill-taken .end - at = rw (q, r) v in
-            (omega (arith, w, fill-taken .onward), omega (arith, w, fill-taken .onward, fill-taken .element .inside))
+  pub read-one : (r : Size) → getD sizes i 0 < 255 → r .bytes ≡ getD sizes i 0 → r .next ≡ i + 1 → NotedIs sizes i r
+  read-one r h p q n (in-one x y l) = (p ∙ y, rw (bytes-one n x) q)
+  read-one r h p q n (in-three x y v l) = absurd (omega (arith, h, y))
 
-    pub size-inside : i < length sizes
-    size-inside = by size-noted
-      where
-        by : NotedAs sizes i (fill-taken .end - at) → i < length sizes
-        by (in-one x y l) = l
-        by (in-three x y v l) = omega (arith, l)
-
-    -- Its row by the numbers of the code: t is the token, r the bytes behind it, z the first byte of the size.
-    module _ (t r id update origin′ : ℕ) (table′ : List ℕ) (e : t ≡ getD s at 0) (w : at + 5 ≤ length s → r ≡ idAt s at)
-        (j : id ≡ pick (eqb (t / 128) 0) 0 r) (u : update ≡ pick (eqb (kindBy t % 4 / 3) 0) 0 (at + 1 + 4 * (t / 128)))
-        (g : origin′ ≡ pick (eqb (kindBy t / 3) 0) (at + 1 + 4 * (t / 128)) origin)
-        (h : table′ ≡ put table (4 * (rows + (1 - kindBy t / 3) - 1)) (rowNumbers (entry (kindBy t) id origin′ update))) where
-      id-same : (b : Bool) → eqb (t / 128) 0 ≡ b → pick b 0 r ≡ pick b 0 (idAt s at)
-      id-same true q = refl
-      id-same false q = w (fill-taken .whole (rw e at (pos-of (t / 128) (eqb-false _ _ q))))
-        where
-          pos-of : (n : ℕ) → (n ≡ 0 → ⊥) → 1 ≤ n
-          pos-of n k = omega (arith, k)
-
-      table-same : table′ ≡ tableOf
-      table-same = h ∙ rw (j ∙ id-same (eqb (t / 128) 0) refl, u, g, e) refl
-
-      -- a size in one byte
-      pub row-one : (z : ℕ) → z ≡ getD sizes i 0 → z < 255 → AtFill s sizes a entry₀ table′ (at + z) (rows + (1 - kindBy t / 3)) origin′ (i + 1)
-      row-one z y l = rw (table-same, g, e, y) (fill-one (rw y at l))
-
-      -- in three
-      pub row-three : (x y z : ℕ) → x ≡ getD sizes i 0 → y ≡ getD sizes (i + 1) 0 → z ≡ getD sizes (i + 2) 0 → 255 ≤ x →
-          AtFill s sizes a entry₀ table′ (at + (256 * y + z)) (rows + (1 - kindBy t / 3)) origin′ (i + 3)
-      row-three x y z p q v l = rw (table-same, g, e, q, v) (fill-three (rw p at l) .1)
+  pub read-three : (r : Size) → 255 ≤ getD sizes i 0 → r .bytes ≡ 256 * getD sizes (i + 1) 0 + getD sizes (i + 2) 0 → r .next ≡ i + 3 → NotedIs sizes i r
+  read-three r h p q n (in-one x y l) = absurd (omega (arith, h, x, y))
+  read-three r h p q n (in-three x y v l) = (p ∙ v, rw (bytes-three n x) q)
 
 -- a choice of two numbers that are both small
-pub chosen-under : (b : Bool) (x y n : ℕ) {r : ℕ} → r ≡ pick b x y → x < n → y < n → r < n
+chosen-under : (b : Bool) (x y n : ℕ) {r : ℕ} → r ≡ pick b x y → x < n → y < n → r < n
 chosen-under true x y n e h k = rw e h
 chosen-under false x y n e h k = rw e k
+
+-- The entry by the numbers of the code: t is the token, r the bytes behind it.
+module _ (s : Bytes) (at origin t r : ℕ) (e : Entry) (z : t ≡ getD s at 0) (w : at + 5 ≤ length s → r ≡ idAt s at)
+    (k : e .kind ≡ kindBy t) (j : e .id ≡ pick (eqb (t / 128) 0) 0 r) (g : e .original ≡ pick (eqb (kindBy t / 3) 0) (startBy at t) origin)
+    (u : e .update ≡ pick (eqb (kindBy t % 4 / 3) 0) 0 (startBy at t)) where
+  id-same : (1 ≤ t / 128 → at + 5 ≤ length s) → (b : Bool) → eqb (t / 128) 0 ≡ b → pick b 0 r ≡ pick b 0 (idAt s at)
+  id-same h true q = refl
+  id-same h false q = w (h (positive (t / 128) (eqb-false _ _ q)))
+    where
+      positive : (n : ℕ) → (n ≡ 0 → ⊥) → 1 ≤ n
+      positive n k = omega (arith, k)
+
+  pub entry-is : at ≤ 16777216 → origin ≤ 16777216 → t < 256 → r < 4294967296 → EntryAt s at origin e
+  entry-is l o b c =
+      record {
+        kind = k ∙ ap (λ (x : ℕ). kindBy x) z;
+        low = rw k (omega arith);
+        same = λ h. rw (k, j ∙ id-same (rw z h) (eqb (t / 128) 0) refl, g, u, z) refl;
+        small =
+            record {
+              kind = rw k (omega arith);
+              id = chosen-under (eqb (t / 128) 0) 0 r 4294967296 j (omega arith) c;
+              original = chosen-under (eqb (kindBy t / 3) 0) (startBy at t) origin 4294967296 g (omega arith) (omega arith);
+              update = chosen-under (eqb (kindBy t % 4 / 3) 0) 0 (startBy at t) 4294967296 u (omega arith) (omega arith);
+            };
+      }
 
 -- a section that was accepted, where the first size is not 0
 pub accepted : (S : List Schema) (s : Bytes) (sizes : List ℕ) (rs : List Row) → 1 ≤ length S → section S s ≡ ok rs → NotedOr0 S s sizes → (getD sizes 0 0 ≡ 0 → ⊥) → Accepted s sizes

@@ -1,20 +1,20 @@
 -- Laws of heads: the id behind a token, and the ways out of each kind of head.
 -- Assumes nothing.
-use Prim.Native.Nat.{ℕ, zero, suc, _+_, _≤_, _<_}
+use Prim.Native.Nat.{ℕ, zero, suc, _+_, _^_, _≤_, _<_}
 use mathlib.Core.Path.{_≡_, refl, sym, ap, _∙_}
 use mathlib.Core.List.{List, []}
 use mathlib.Core.Bool.{Bool, true, false}
 use mathlib.Core.Option.{Option, none, some}
 use native.Mathlib.Omega.{arith}
-use lib.ListN.{length, getD}
+use lib.ListN.{length, getD, drop}
 use lib.Dec.{eqb, leb}
 use borrow.Author.Tests.{eqb-true, eq-eqb, ne-eqb, leb-true}
 use Rattle.wire.specs.declared.error.Input.{Input}
 use Rattle.wire.specs.declared.error.Input.the-variants as input
-use Rattle.wire.specs.Read.{Bytes, Read, ok, bad, _>>=_, pick, check, whole}
-use Rattle.wire.specs.Integers.{intAt, readInt}
+use Rattle.wire.specs.Read.{Bytes, AreBytes, cut, Read, ok, bad, _>>=_, pick, check, whole}
+use Rattle.wire.specs.Integers.{valueOf, intAt, readInt}
 use Rattle.wire.proofs.Laws.{whole-fits, whole-short}
-use Rattle.wire.proofs.Pieces.{bad-ok, bind-ok, check-ok, ok-ok}
+use Rattle.wire.proofs.Pieces.{bad-ok, bind-ok, check-ok, ok-ok, cut-length, value-small, bytes-take, bytes-drop}
 use Rattle.schema.specs.Schemas.{Schema, childNumber}
 use Rattle.schema.specs.Table.{schemaSlot, idIn, schemasIn}
 use Rattle.schema.specs.Questions.{or0}
@@ -34,19 +34,32 @@ module _ (s : Bytes) (at : ℕ) where
       go (ok b) g = absurd (bad-ok (sym g))
       go (bad e o i) g = cc
 
-  whole-was : (b : ℕ) → whole s (at + 1) 4 ≡ ok b → whole s (at + 1) 4 ≡ ok (at + 5)
+  pub whole-inside : (n b : ℕ) → whole s at n ≡ ok b → (b ≡ at + n) × (at + n ≤ length s)
   unfolding whole
-  whole-was b e =
-      let (u, g, k) = bind-ok (check (leb (at + 1 + 4) (length s)) 1 (length s)) (λ _. ok (at + 1 + 4)) b e in
-      let l : at + 1 + 4 ≤ length s = leb-true _ _ (check-ok _ _ _ u g) in
-      let z : at + 1 + 4 ≡ at + 5 = omega arith in
-      whole-fits s (at + 1) 4 l ∙ ap (λ (n : ℕ). ok n) z
+  whole-inside n b e =
+      let (u, t, f) = bind-ok (check (leb (at + n) (length s)) 1 (length s)) (λ _. ok (at + n)) b e in
+      (sym (ok-ok f), leb-true _ _ (check-ok _ _ _ u t))
 
-  pub id-read : {n : ℕ} → readInt s (at + 1) 4 ≡ ok n → (whole s (at + 1) 4 ≡ ok (at + 5)) × (idAt s at ≡ n)
-  unfolding readInt
-  id-read {n} h =
-      let (b, e, f) = bind-ok (whole s (at + 1) 4) (λ _. ok (intAt s (at + 1) 4)) n h in
-      (whole-was b e, ok-ok f)
+  -- an id is a number of four bytes
+  pub id-small : AreBytes s → at + 5 ≤ length s → idAt s at < 4294967296
+  unfolding intAt
+  id-small o h =
+      let l : length (cut s (at + 1) 4) ≡ 4 = cut-length s (at + 1) 4 (omega arith) in
+      let v : valueOf (cut s (at + 1) 4) < 256 ^ length (cut s (at + 1) 4) = value-small (cut s (at + 1) 4) (bytes-take 4 (drop (at + 1) s) (bytes-drop (at + 1) s o)) in
+      rw l at v
+
+-- four bytes behind a token end at at + 5
+pub id-end : (s : Bytes) (at b : ℕ) → whole s (at + 1) 4 ≡ ok b → (b ≡ at + 5) × (at + 5 ≤ length s)
+id-end s at b e = let (x, y) = whole-inside s (at + 1) 4 b e in (omega arith, omega arith)
+
+pub id-read : (s : Bytes) (at : ℕ) {n : ℕ} → readInt s (at + 1) 4 ≡ ok n → (whole s (at + 1) 4 ≡ ok (at + 5)) × (idAt s at ≡ n)
+unfolding readInt
+id-read s at {n} h =
+    let (b, e, f) = bind-ok (whole s (at + 1) 4) (λ _. ok (intAt s (at + 1) 4)) n h in
+    (e ∙ ap (λ (x : ℕ). ok x) (id-end s at b e .0), ok-ok f)
+
+pub id-read-small : (s : Bytes) (at : ℕ) {n : ℕ} → AreBytes s → readInt s (at + 1) 4 ≡ ok n → n < 4294967296
+id-read-small s at o h = let (w, e) = id-read s at h in rw (← e) (id-small s at o (id-end s at _ w .1))
 
 -- An 87 element directly before, by the number of its schema.
 pub follows-child : (slots : List ℕ) (child id : ℕ) → 0 < child → follows (beforeIn slots child) id ≡ eqb (idIn (getD slots (schemaSlot child) 0)) id
@@ -79,7 +92,7 @@ module _ (s : Bytes) (before : Before) (at : ℕ) where
   paired-was {id} h =
       let (b, e, f) = bind-ok (whole s (at + 1) 4) (λ _. check (follows before (idAt s at)) 11 at >>= λ _. ok (idAt s at)) id h in
       let (u, g, k) = bind-ok (check (follows before (idAt s at)) 11 at) (λ _. ok (idAt s at)) id f in
-      (whole-was s at b e, check-ok _ _ _ u g, ok-ok k)
+      (e ∙ ap (λ (x : ℕ). ok x) (id-end s at b e .0), check-ok _ _ _ u g, ok-ok k)
 
   module _ {n : ℕ} (w : whole s (at + 1) 4 ≡ ok n) where
     pub paired-other : follows before (idAt s at) ≡ false → pairedId s before at ≡ bad 11 at input.Single

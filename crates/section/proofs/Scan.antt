@@ -3,7 +3,7 @@
 use Prim.Native.Nat.{ℕ, zero, suc, _+_, _*_, _-_, _<_, _≤_}
 use mathlib.Core.Path.{_≡_, refl, sym, ap, _∙_}
 use mathlib.Core.List.{List, [], _∷_, _++_, append-assoc, append-nil}
-use mathlib.Core.Bool.{true, false}
+use mathlib.Core.Bool.{Bool, true, false}
 use mathlib.Core.Option.{some}
 use native.Mathlib.Omega.{arith}
 use lib.ListN.{length, length-append}
@@ -12,15 +12,18 @@ use Rattle.wire.specs.declared.error.Input.{Input}
 use Rattle.wire.specs.Read.{Bytes, AreBytes, Read, ok, bad, _>>=_}
 use Rattle.wire.specs.Output.{put}
 use Rattle.wire.proofs.Pieces.{bind-unit, bind-bind}
+use Rattle.column.specs.declared.column.Column.{Column}
 use Rattle.schema.specs.Schemas.{Schema}
 use Rattle.schema.proofs.Children.{child-found}
 use Rattle.grammar.specs.Grammar.{after, columnsAt, Row, entry}
 use Rattle.grammar.specs.Pending.{Pending, nothing, child-row, beforeOf, flush, close, rowsFrom}
+use Rattle.grammar.proofs.Ends.{row-ends, update-ends}
 use Rattle.section.specs.Heads.{HeadAt, doneHead, deleteHead, dataHead, headAt}
 use Rattle.section.specs.Table.{rowNumbers}
 use Rattle.section.specs.Scan.{laidFrom}
 use Rattle.section.specs.Ways.{dataEnd}
-use Rattle.section.proofs.Turns.{resumed, pendingAfter, rowsAfter, rows-step, HeadTold, told-delete, told-parent, told-child, told-change, head-told, id-small}
+use Rattle.section.proofs.HeadLaws.{id-small}
+use Rattle.section.proofs.Turns.{resumed, pendingAfter, rowsAfter, rows-step, HeadTold, told-delete, told-parent, told-child, told-change, head-told}
 use Rattle.section.proofs.Laid.{laid-more, laid-again, length-laid}
 
 -- all rows of the section
@@ -41,6 +44,11 @@ pub record AtElement (S : List Schema) (s : Bytes) (entry exit : List ℕ) (at r
 -- where the data of a child row that is not closed start
 abbrev pub Begun : Pending → (origin : ℕ) → Type 0
 Begun p origin = (id start : ℕ) → p ≡ child-row id start → start ≡ origin
+
+-- row data lie in the input
+pub data-inside : (u : Bool) (cs : List Column) (s : Bytes) (start e : ℕ) → dataEnd u cs s start ≡ ok e → (start ≤ e) × (e ≤ length s)
+data-inside true cs s start e q = update-ends cs s start e q
+data-inside false cs s start e q = row-ends cs s start e q
 
 -- the rows that follow, each answer changed alike
 rows-alike : (r : Read (List Row)) (f g : List Row → List Row) → ((rs : List Row) → f rs ≡ g rs) → (r >>= λ rs. ok (f rs)) ≡ (r >>= λ rs. ok (g rs))
@@ -261,34 +269,38 @@ module _ (S : List Schema) (s : Bytes) (entry₀ table : List ℕ) (at rows : �
       }
 
   -- The row of data that end at e: of a parent or a child a new row.
-  pub row-ended : {kind k id start : ℕ} (e : ℕ) → Ahead kind k id start → eqb kind 3 ≡ false → dataEnd (eqb kind 3) (columnsAt S k) s start ≡ ok e → start ≤ e → e ≤ length s →
+  pub row-ended : {kind k id start : ℕ} (e : ℕ) → Ahead kind k id start → eqb kind 3 ≡ false → dataEnd (eqb kind 3) (columnsAt S k) s start ≡ ok e →
       AtElement S s entry₀ (put table (4 * rows) (rowNumbers (entry kind id start 0))) e (rows + 1) (pendingAfter kind id start)
-  row-ended {kind} {k} {id} {start} e h t q x y = by (told (dataHead kind k id start) (h .head)) t (turned (ok (dataHead kind k id start)) (h .head)) q x
+  row-ended {kind} {k} {id} {start} e h t q =
+      let (x, y) = data-inside (eqb kind 3) (columnsAt S k) s start e q in
+      by (told (dataHead kind k id start) (h .head)) t (turned (ok (dataHead kind k id start)) (h .head)) q x y
     where
       by : {kind k id start : ℕ} → HeadTold S s (beforeOf p) at (dataHead kind k id start) → eqb kind 3 ≡ false →
           (f : ℕ) × (length s ≤ f + at)
           × (allRows S s ≡ (resumed S s (rowsFrom S s f) p at (dataHead kind k id start) >>= λ rs. ok (a .listed ++ rs))) →
-          dataEnd (eqb kind 3) (columnsAt S k) s start ≡ ok e → start ≤ e →
+          dataEnd (eqb kind 3) (columnsAt S k) s start ≡ ok e → start ≤ e → e ≤ length s →
           AtElement S s entry₀ (put table (4 * rows) (rowNumbers (entry kind id start 0))) e (rows + 1) (pendingAfter kind id start)
-      by (told-parent i l) t (f, m, w) q x = parent-ended e f m w q x y
-      by (told-child {k = k} {id = id} {start = start} i c j z l) t (f, m, w) q x = child-ended k id start e f (omega arith) m w q x y
-      by (told-change i b c j z l) t w q x = let v : _≡_ {A = ℕ} 0 1 = cc in absurd (omega arith)
+      by (told-parent i l) t (f, m, w) q x y = parent-ended e f m w q x y
+      by (told-child {k = k} {id = id} {start = start} i c j z l) t (f, m, w) q x y = child-ended k id start e f (omega arith) m w q x y
+      by (told-change i b c j z l) t w q x y = let v : _≡_ {A = ℕ} 0 1 = cc in absurd (omega arith)
 
   -- Update data that end at e: the row of the 87 before them is changed.
   abbrev pub Changed : (id origin start e : ℕ) → Type 0
   Changed id origin start e = (1 ≤ rows) × AtElement S s entry₀ (put table (4 * (rows - 1)) (rowNumbers (entry 3 id origin start))) e rows nothing
 
-  pub change-ended : {kind k id start : ℕ} (e origin : ℕ) → Begun p origin → Ahead kind k id start → eqb kind 3 ≡ true → dataEnd (eqb kind 3) (columnsAt S k) s start ≡ ok e → start ≤ e →
-      e ≤ length s → Changed id origin start e
-  change-ended {kind} {k} {id} {start} e origin g h t q x y = by (told (dataHead kind k id start) (h .head)) t (turned (ok (dataHead kind k id start)) (h .head)) q x
+  pub change-ended : {kind k id start : ℕ} (e origin : ℕ) → Begun p origin → Ahead kind k id start → eqb kind 3 ≡ true → dataEnd (eqb kind 3) (columnsAt S k) s start ≡ ok e →
+      Changed id origin start e
+  change-ended {kind} {k} {id} {start} e origin g h t q =
+      let (x, y) = data-inside (eqb kind 3) (columnsAt S k) s start e q in
+      by (told (dataHead kind k id start) (h .head)) t (turned (ok (dataHead kind k id start)) (h .head)) q x y
     where
       by : {kind k id start : ℕ} → HeadTold S s (beforeOf p) at (dataHead kind k id start) → eqb kind 3 ≡ true →
           (f : ℕ) × (length s ≤ f + at)
           × (allRows S s ≡ (resumed S s (rowsFrom S s f) p at (dataHead kind k id start) >>= λ rs. ok (a .listed ++ rs))) →
-          dataEnd (eqb kind 3) (columnsAt S k) s start ≡ ok e → start ≤ e → Changed id origin start e
-      by (told-parent i l) t w q x = let v : _≡_ {A = ℕ} 0 1 = cc in absurd (omega arith)
-      by (told-child i c j z l) t w q x = let v : _≡_ {A = ℕ} 0 1 = cc in absurd (omega arith)
-      by (told-change {k = k} {id = id} {start = start} i b c j z l) t (f, m, w) q x =
+          dataEnd (eqb kind 3) (columnsAt S k) s start ≡ ok e → start ≤ e → e ≤ length s → Changed id origin start e
+      by (told-parent i l) t w q x y = let v : _≡_ {A = ℕ} 0 1 = cc in absurd (omega arith)
+      by (told-child i c j z l) t w q x y = let v : _≡_ {A = ℕ} 0 1 = cc in absurd (omega arith)
+      by (told-change {k = k} {id = id} {start = start} i b c j z l) t (f, m, w) q x y =
           closed 3 id origin start e f (rowsFrom S s f nothing e) g b (omega arith) (omega arith) y refl (ended 3 k id start e f q w)
 
   -- how long the table is

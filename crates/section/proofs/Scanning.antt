@@ -25,13 +25,13 @@ use Rattle.grammar.specs.Pending.{Pending, child-row, beforeOf, flush}
 use Rattle.grammar.proofs.Pending.{rows-are-section}
 use Rattle.section.specs.declared.read.RowsRead.the-variants as read
 use Rattle.section.specs.Heads.{HeadAt, doneHead, deleteHead, dataHead, headAt, beforeIn, pendingIn}
-use Rattle.section.specs.Table.{rowNumbers}
+use Rattle.section.specs.Table.{rowNumbers, SmallRow}
 use Rattle.section.specs.Scan.{laidFrom, Scanned}
-use Rattle.section.specs.Shapes.{slotColumns}
-use Rattle.section.specs.Sizes.{NotedOr0, NotedAt}
+use Rattle.section.specs.Shapes.{Sound, Held, slotColumns}
+use Rattle.section.specs.Sizes.{NotedOr0, NotedAt, RoomForSizes}
 use Rattle.section.specs.Ways.{dataEnd}
 use Rattle.section.proofs.Turns.{pendingAfter, before-pending, HeadTold, told-done, told-parent, told-child, told-change}
-use Rattle.section.proofs.Scan.{allRows, AtElement, Begun, at-start, told, head-refused, head-done, deleted, Ahead, head-ahead, data-refused, row-ended, change-ended, table-long}
+use Rattle.section.proofs.Scan.{allRows, AtElement, Begun, at-start, told, head-refused, head-done, deleted, Ahead, head-ahead, data-refused, data-inside, row-ended, change-ended, table-long}
 use Rattle.section.proofs.Noting.{AtNote, noted-start, noted-next, noted-all, data-ends, delete-ends}
 
 -- the columns of a schema, by the table of slots
@@ -64,20 +64,26 @@ pub record AtScan (slots : List ℕ) (n : ℕ) (s : Bytes) (entry exit sizes₀ 
   pub element : AtElement (schemasIn 0 n slots) s entry exit at rows (pendingIn slots child origin)
   pub nested : child < n
   pub begun : origin ≤ length s
+  pub sized : length s ≤ 16777216
   pub noted : AtNote (schemasIn 0 n slots) s sizes at used
   pub long : length sizes ≡ length sizes₀
-  pub room : used ≤ length sizes
+  pub room : RoomForSizes sizes × (used ≤ length sizes)
 
-pub scan-start : (slots : List ℕ) (n : ℕ) (s : Bytes) (table sizes : List ℕ) → 1 ≤ n → AtScan slots n s table table sizes sizes 0 0 0 0 0
-scan-start slots n s table sizes h =
+pub scan-start : (slots : List ℕ) (n : ℕ) (s : Bytes) (table sizes : List ℕ) → 1 ≤ n → length s ≤ 16777216 → RoomForSizes sizes →
+    AtScan slots n s table table sizes sizes 0 0 0 0 0
+scan-start slots n s table sizes h l r =
     record {
       element = at-start (schemasIn 0 n slots) s table;
       nested = h;
       begun = omega arith;
+      sized = l;
       noted = inr (noted-start (schemasIn 0 n slots) s sizes);
       long = refl;
-      room = omega arith;
+      room = (r, omega arith);
     }
+
+room-kept : {entry exit : List ℕ} → length exit ≡ length entry → RoomForSizes entry → RoomForSizes exit
+room-kept e r = record { some = omega (arith, e, r .some); most = omega (arith, e, r .most) }
 
 module _ (slots : List ℕ) (n : ℕ) (s : Bytes) (entry₀ table sizes₀ sizes : List ℕ) (at rows child origin used : ℕ)
     (a : AtScan slots n s entry₀ table sizes₀ sizes at rows child origin used) where
@@ -94,11 +100,14 @@ module _ (slots : List ℕ) (n : ℕ) (s : Bytes) (entry₀ table sizes₀ sizes
   pub scan-refused : {c o : ℕ} {i : Input} → headAt S s (beforeIn slots child) at ≡ bad c o i → allRows S s ≡ bad c o i
   scan-refused e = head-refused S s entry₀ table at rows P (a .element) (here e)
 
+  few-rows : rows ≤ 16777216
+  few-rows = omega (arith, a .element .few, a .element .inside, a .sized)
+
   -- an 8C
   pub record ScanDeleted (id : ℕ) : Type 0 where
     pub some : 1 ≤ rows
     pub within : at + 5 ≤ length s
-    pub small : id < 4294967296
+    pub fits : (rows - 1 ≤ 16777216) × SmallRow (entry 4 id origin 0)
     pub next : (exit : List ℕ) (used′ : ℕ) → NotedAt sizes exit used 5 used′ → used′ ≤ length exit →
         AtScan slots n s entry₀ (put table (4 * (rows - 1)) (rowNumbers (entry 4 id origin 0))) sizes₀ exit (at + 5) rows 0 origin used′
 
@@ -109,14 +118,18 @@ module _ (slots : List ℕ) (n : ℕ) (s : Bytes) (entry₀ table sizes₀ sizes
       record {
         some = d .some;
         within = d .within;
-        small = d .small;
+        fits = (
+          omega (arith, few-rows),
+          record { kind = omega arith; id = d .small; original = omega (arith, a .begun, a .sized); update = omega arith },
+        );
         next = λ exit used′ m r. record {
           element = d .next;
           nested = omega (arith, a .nested);
           begun = a .begun;
+          sized = a .sized;
           noted = let z : at + 5 - at ≡ 5 = omega arith in noted-next S s sizes exit at used (at + 5) used′ f (rw z m) (a .noted);
           long = m .long ∙ a .long;
-          room = r;
+          room = (room-kept (m .long) (a .room .0), r);
         };
       }
 
@@ -128,6 +141,15 @@ module _ (slots : List ℕ) (n : ℕ) (s : Bytes) (entry₀ table sizes₀ sizes
     pub ahead-number : k < n
     ahead-number = omega (arith, h .number, schemas-in-length 0 n slots)
 
+    pub row-fits : (rows ≤ 16777216) × SmallRow (entry kind id start 0)
+    row-fits = (few-rows, record { kind = omega (arith, h .low); id = h .small; original = omega (arith, h .within, a .sized); update = omega arith })
+
+    pub change-fits : (rows - 1 ≤ 16777216) × SmallRow (entry 3 id origin start)
+    change-fits = (
+      omega (arith, few-rows),
+      record { kind = omega arith; id = h .small; original = omega (arith, a .begun, a .sized); update = omega (arith, h .within, a .sized) },
+    )
+
     -- what ends by the columns in the slots
     by-slots : {r : Read ℕ} → dataEnd (eqb kind 3) (slotColumns slots k) s start ≡ r → dataEnd (eqb kind 3) (columnsAt S k) s start ≡ r
     by-slots q = ap (λ (cs : List Column). dataEnd (eqb kind 3) cs s start) (columns-at slots n k ahead-number) ∙ q
@@ -135,50 +157,55 @@ module _ (slots : List ℕ) (n : ℕ) (s : Bytes) (entry₀ table sizes₀ sizes
     pub scan-data-refused : {c o : ℕ} {i : Input} → dataEnd (eqb kind 3) (slotColumns slots k) s start ≡ bad c o i → allRows S s ≡ bad c o i
     scan-data-refused q = data-refused S s entry₀ table at rows P (a .element) h (by-slots q)
 
-    module _ (e : ℕ) (q : dataEnd (eqb kind 3) (slotColumns slots k) s start ≡ ok e) (x : start ≤ e) (y : e ≤ length s)
-        (exit : List ℕ) (used′ : ℕ) (m : NotedAt sizes exit used (e - at) used′) (r : used′ ≤ length exit) where
-      here-told : HeadTold S s (beforeOf P) at (dataHead kind k id start)
-      here-told = told S s entry₀ table at rows P (a .element) (dataHead kind k id start) (h .head)
+    module _ (e : ℕ) (q : dataEnd (eqb kind 3) (slotColumns slots k) s start ≡ ok e) where
+      pub data-end : (at < e) × (e ≤ length s)
+      data-end = let (x, y) = data-inside (eqb kind 3) (slotColumns slots k) s start e q in (omega (arith, h .behind, x), y)
 
-      more : AtNote S s exit e used′
-      more = noted-next S s sizes exit at used e used′ (data-ends S s (beforeOf P) at here-told (by-slots q)) m (a .noted)
+      module _ (exit : List ℕ) (used′ : ℕ) (m : NotedAt sizes exit used (e - at) used′) (r : used′ ≤ length exit) where
+        here-told : HeadTold S s (beforeOf P) at (dataHead kind k id start)
+        here-told = told S s entry₀ table at rows P (a .element) (dataHead kind k id start) (h .head)
 
-      -- what is pending behind the row
-      pending-kept : eqb kind 3 ≡ false → pendingAfter kind id start ≡ pendingIn slots k start
-      pending-kept t = by here-told t
-        where
-          by : {kind k id start : ℕ} → HeadTold S s (beforeOf P) at (dataHead kind k id start) → eqb kind 3 ≡ false → pendingAfter kind id start ≡ pendingIn slots k start
-          by (told-parent i l) t = refl
-          by (told-child {k = k} {id = id} {start = start} i c j z l) t =
-              let (one, u, v) = child-slot slots n id k c in
-              child-pending slots k id start one v
-          by (told-change i b c j z l) t = let v : _≡_ {A = ℕ} 0 1 = cc in absurd (omega arith)
+        more : AtNote S s exit e used′
+        more = noted-next S s sizes exit at used e used′ (data-ends S s (beforeOf P) at here-told (by-slots q)) m (a .noted)
 
-      pub scan-row-ended : eqb kind 3 ≡ false → AtScan slots n s entry₀ (put table (4 * rows) (rowNumbers (entry kind id start 0))) sizes₀ exit e (rows + 1) k start used′
-      scan-row-ended t =
-          record {
-            element = rw (pending-kept t) at (row-ended S s entry₀ table at rows P (a .element) e h t (by-slots q) x y);
-            nested = ahead-number;
-            begun = h .within;
-            noted = more;
-            long = m .long ∙ a .long;
-            room = r;
-          }
+        -- what is pending behind the row
+        pending-kept : eqb kind 3 ≡ false → pendingAfter kind id start ≡ pendingIn slots k start
+        pending-kept t = by here-told t
+          where
+            by : {kind k id start : ℕ} → HeadTold S s (beforeOf P) at (dataHead kind k id start) → eqb kind 3 ≡ false → pendingAfter kind id start ≡ pendingIn slots k start
+            by (told-parent i l) t = refl
+            by (told-child {k = k} {id = id} {start = start} i c j z l) t =
+                let (one, u, v) = child-slot slots n id k c in
+                child-pending slots k id start one v
+            by (told-change i b c j z l) t = let v : _≡_ {A = ℕ} 0 1 = cc in absurd (omega arith)
 
-      pub scan-change-ended : eqb kind 3 ≡ true →
-          (1 ≤ rows) × AtScan slots n s entry₀ (put table (4 * (rows - 1)) (rowNumbers (entry 3 id origin start))) sizes₀ exit e rows 0 origin used′
-      scan-change-ended t =
-          let (o, c) = change-ended S s entry₀ table at rows P (a .element) e origin (begun-in slots child origin) h t (by-slots q) x y in (
-            o,
+        pub scan-row-ended : eqb kind 3 ≡ false → AtScan slots n s entry₀ (put table (4 * rows) (rowNumbers (entry kind id start 0))) sizes₀ exit e (rows + 1) k start used′
+        scan-row-ended t =
             record {
-              element = c;
-              nested = omega (arith, a .nested);
-              begun = a .begun;
+              element = rw (pending-kept t) at (row-ended S s entry₀ table at rows P (a .element) e h t (by-slots q));
+              nested = ahead-number;
+              begun = h .within;
+              sized = a .sized;
               noted = more;
               long = m .long ∙ a .long;
-              room = r;
-            },
-          )
+              room = (room-kept (m .long) (a .room .0), r);
+            }
+
+        pub scan-change-ended : eqb kind 3 ≡ true → AtScan slots n s entry₀ (put table (4 * (rows - 1)) (rowNumbers (entry 3 id origin start))) sizes₀ exit e rows 0 origin used′
+        scan-change-ended t =
+            record {
+              element = change-ended S s entry₀ table at rows P (a .element) e origin (begun-in slots child origin) h t (by-slots q) .1;
+              nested = omega (arith, a .nested);
+              begun = a .begun;
+              sized = a .sized;
+              noted = more;
+              long = m .long ∙ a .long;
+              room = (room-kept (m .long) (a .room .0), r);
+            }
+
+      -- a change has a row before it
+      pub change-some : eqb kind 3 ≡ true → 1 ≤ rows
+      change-some t = change-ended S s entry₀ table at rows P (a .element) e origin (begun-in slots child origin) h t (by-slots q) .0
 
   pub scan-long : length table ≡ length entry₀
   scan-long = table-long S s entry₀ table at rows P (a .element)

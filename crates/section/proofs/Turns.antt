@@ -1,23 +1,23 @@
 -- A turn of the reader by positions is the element's head and then what the head asks for.
 -- Assumes nothing.
-use Prim.Native.Nat.{ℕ, zero, suc, _+_, _^_, _<_, _≤_}
+use Prim.Native.Nat.{ℕ, zero, suc, _+_, _≤_}
 use mathlib.Core.Path.{_≡_, refl, sym, ap, _∙_}
 use mathlib.Core.List.{List, [], _∷_}
 use mathlib.Core.Bool.{true}
 use mathlib.Core.Option.{Option, none, some}
 use native.Mathlib.Omega.{arith}
-use lib.ListN.{length, getD, drop}
-use lib.Dec.{leb, eqb}
-use borrow.Author.Tests.{leb-true, eqb-true}
-use Rattle.wire.specs.Integers.{valueOf, intAt}
-use Rattle.wire.specs.Read.{Bytes, AreBytes, cut, Read, ok, _>>=_, pick, check, whole}
+use lib.ListN.{length, getD}
+use lib.Dec.{eqb}
+use borrow.Author.Tests.{eqb-true}
+use Rattle.wire.specs.Read.{Bytes, Read, ok, _>>=_, pick, check, whole}
 use Rattle.schema.specs.Schemas.{Schema, childNumber}
-use Rattle.wire.proofs.Pieces.{bind-ok, check-ok, ok-ok, bad-ok, cut-length, value-small, bytes-take, bytes-drop, bind-same, bind-bind}
+use Rattle.wire.proofs.Pieces.{bind-ok, check-ok, ok-ok, bad-ok, bind-same, bind-bind}
 use Rattle.grammar.specs.Grammar.{Before, other, after, columnsAt, Row, entry}
 use Rattle.grammar.specs.Reader.{Token, parentToken, childToken, changeToken, deleteToken, doneToken, unknownToken, tokenOf, knownChild, follows, idAt}
 use Rattle.grammar.specs.Pending.{Pending, nothing, child-row, beforeOf, flush, close, turn, rowsFrom}
 use Rattle.section.specs.Heads.{HeadAt, doneHead, deleteHead, dataHead, headBy, headAt, beforeIn, pendingIn}
 use Rattle.section.specs.Ways.{dataEnd}
+use Rattle.section.proofs.HeadLaws.{whole-inside, id-end}
 
 -- what is pending behind row data of a kind
 abbrev pub pendingAfter : (kind id start : ℕ) → Pending
@@ -34,13 +34,6 @@ resumed S s next p at (deleteHead id) = next nothing (at + 5) >>= λ rs. ok (clo
 resumed S s next p at (dataHead kind k id start) =
     dataEnd (eqb kind 3) (columnsAt S k) s start >>= λ e. next (pendingAfter kind id start) e >>= λ rs. ok (rowsAfter kind start p rs)
 
--- four bytes behind a token end at at + 5
-id-end : (s : Bytes) (at b : ℕ) → whole s (at + 1) 4 ≡ ok b → b ≡ at + 5
-unfolding whole
-id-end s at b e =
-    let (u, t, f) = bind-ok (check (leb (at + 1 + 4) (length s)) 1 (length s)) (λ _. ok (at + 1 + 4)) b e in
-    omega (arith, ok-ok f)
-
 module _ (S : List Schema) (s : Bytes) (next : Pending → ℕ → Read (List Row)) (p : Pending) (at : ℕ) where
   by-token : (t : Token) → turn S s next p at t ≡ (headBy S s (beforeOf p) at t >>= resumed S s next p at)
   unfolding turn headBy
@@ -56,7 +49,7 @@ module _ (S : List Schema) (s : Bytes) (next : Pending → ℕ → Read (List Ro
       ∙ sym (bind-bind (whole s (at + 1) 4) _ _)
   by-token deleteToken =
       bind-same (whole s (at + 1) 4) _ _
-      (λ b e. ap (λ (x : ℕ). check (follows (beforeOf p) (idAt s at)) 11 at >>= λ _. next nothing x >>= λ rs. ok (close 4 0 p rs)) (id-end s at b e)
+      (λ b e. ap (λ (x : ℕ). check (follows (beforeOf p) (idAt s at)) 11 at >>= λ _. next nothing x >>= λ rs. ok (close 4 0 p rs)) (id-end s at b e .0)
       ∙ sym (bind-bind (check (follows (beforeOf p) (idAt s at)) 11 at) _ _))
       ∙ sym (bind-bind (whole s (at + 1) 4) _ _)
   by-token unknownToken = refl
@@ -85,12 +78,6 @@ pub data HeadTold (S : List Schema) (s : Bytes) (before : Before) (at : ℕ) : H
   told-child : {k id start : ℕ} → TokenIs s at childToken → childNumber S id ≡ some k → id ≡ idAt s at → start ≡ at + 5 → start ≤ length s → HeadTold S s before at (dataHead 2 k id start)
   told-change : {k id start : ℕ} → TokenIs s at changeToken → before ≡ after id → childNumber S id ≡ some k → id ≡ idAt s at → start ≡ at + 5 → start ≤ length s → HeadTold S s before at (dataHead 3 k id start)
 
-whole-inside : (s : Bytes) (a n b : ℕ) → whole s a n ≡ ok b → (b ≡ a + n) × (a + n ≤ length s)
-unfolding whole
-whole-inside s a n b e =
-    let (u, t, f) = bind-ok (check (leb (a + n) (length s)) 1 (length s)) (λ _. ok (a + n)) b e in
-    (sym (ok-ok f), leb-true _ _ (check-ok _ _ _ u t))
-
 known-some : (at : ℕ) (o : Option ℕ) (k : ℕ) → knownChild at o ≡ ok k → o ≡ some k
 unfolding knownChild
 known-some at none k e = absurd (bad-ok e)
@@ -113,28 +100,20 @@ module _ (S : List Schema) (s : Bytes) (before : Before) (at : ℕ) (here : at +
   told-by childToken h i e =
       let (b, w, r₁) = bind-ok _ _ h e in
       let (k, n, r₂) = bind-ok _ _ h r₁ in
-      let (x, y) = whole-inside s (at + 1) 4 b w in
+      let (x, y) = id-end s at b w in
       as-told (told-child i (known-some at _ k n) refl (omega arith) (omega arith)) (ok-ok r₂)
   told-by changeToken h i e =
       let (b, w, r₁) = bind-ok _ _ h e in
       let (u, f, r₂) = bind-ok _ _ h r₁ in
       let (k, n, r₃) = bind-ok _ _ h r₂ in
-      let (x, y) = whole-inside s (at + 1) 4 b w in
+      let (x, y) = id-end s at b w in
       as-told (told-change i (follows-after before (idAt s at) (check-ok _ _ _ u f)) (known-some at _ k n) refl (omega arith) (omega arith)) (ok-ok r₃)
   told-by deleteToken h i e =
       let (b, w, r₁) = bind-ok _ _ h e in
       let (u, f, r₂) = bind-ok _ _ h r₁ in
-      let (x, y) = whole-inside s (at + 1) 4 b w in
+      let (x, y) = id-end s at b w in
       as-told (told-delete i (follows-after before (idAt s at) (check-ok _ _ _ u f)) refl (omega arith)) (ok-ok r₂)
   told-by unknownToken h i e = absurd (bad-ok e)
-
--- an id is a number of four bytes
-pub id-small : (s : Bytes) (at : ℕ) → AreBytes s → at + 5 ≤ length s → idAt s at < 4294967296
-unfolding intAt
-id-small s at o h =
-    let l : length (cut s (at + 1) 4) ≡ 4 = cut-length s (at + 1) 4 (omega arith) in
-    let v : valueOf (cut s (at + 1) 4) < 256 ^ length (cut s (at + 1) 4) = value-small (cut s (at + 1) 4) (bytes-take 4 (drop (at + 1) s) (bytes-drop (at + 1) s o)) in
-    rw l at v
 
 pub head-told : (S : List Schema) (s : Bytes) (before : Before) (at : ℕ) (h : HeadAt) → headAt S s before at ≡ ok h → HeadTold S s before at h
 unfolding headAt

@@ -1,8 +1,9 @@
 -- Inner: what one pass over a section promises, whatever room the table has.
 -- Assumes nothing.
-use Prim.Native.Nat.{ℕ, _+_, _*_}
+use Prim.Native.Nat.{ℕ, _+_, _*_, _≤_}
 use mathlib.Core.Path.{_≡_}
 use mathlib.Core.List.{List, [], _∷_}
+use lib.ListN.{length}
 use Rattle.wire.specs.Read.{Bytes, ok}
 use Rattle.wire.specs.Output.{put}
 use Rattle.section.specs.declared.read.RowsRead.{RowsRead}
@@ -10,7 +11,16 @@ use Rattle.schema.specs.Schemas.{Schema}
 use Rattle.grammar.specs.Grammar.{Row}
 use Rattle.grammar.specs.Reader.{section}
 use Rattle.section.specs.Table.{rowNumbers, rowCount, toldRows}
+use Rattle.section.specs.Shapes.{Sound, Shaped}
+use Rattle.section.specs.Maps.{AllMasked}
 use Rattle.section.specs.Sizes.{NotedOr0, Accepted}
+
+-- What a pass is given: a table of slots, what was made of it, and a section that is not over the limit.
+pub record Ready (slots words forms masks : List ℕ) (n : ℕ) (s : Bytes) : Type 0 where
+  pub sound : Sound slots n
+  pub shaped : Shaped slots words forms n
+  pub masked : AllMasked slots masks n
+  pub sized : length s ≤ 16777216
 
 -- a table with rows laid into it, the first as row i; a row that does not fit leaves it
 unfoldable pub laidFrom : ℕ → List Row → List ℕ → List ℕ

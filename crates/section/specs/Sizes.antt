@@ -5,14 +5,17 @@ use mathlib.Core.Path.{_≡_}
 use mathlib.Core.Logic.{_⊎_}
 use mathlib.Core.List.{List}
 use lib.ListN.{length, getD}
-use lib.Dec.{ltb}
+use lib.Dec.{ltb, eqb}
 use Rattle.wire.specs.declared.error.Input.the-variants as input
 use Rattle.wire.specs.Read.{Bytes, Read, ok, bad, _>>=_, pick}
 use Rattle.row.specs.Rows.{rowEnd}
 use Rattle.row.specs.Updates.{updateEnd}
 use Rattle.schema.specs.Schemas.{Schema, childNumber}
-use Rattle.grammar.specs.Grammar.{columnsAt, Row}
+use Rattle.grammar.specs.Grammar.{columnsAt, Row, entry}
 use Rattle.grammar.specs.Reader.{Token, parentToken, childToken, changeToken, deleteToken, doneToken, unknownToken, tokenOf, knownChild, idAt, section}
+use Rattle.section.specs.declared.table.Entry.{Entry}
+use Rattle.section.specs.declared.table.Size.{Size}
+use Rattle.section.specs.Table.{SmallRow}
 
 -- where the element with a token at `at` ends
 unfoldable pub endBy : List Schema → Bytes → (at : ℕ) → Token → Read ℕ
@@ -84,6 +87,36 @@ pub record Accepted (s : Bytes) (sizes : List ℕ) : Type 0 where
   pub splits : section schemas s ≡ ok rows
   pub all : AllNoted schemas s sizes
 
+-- some size is noted at i
+abbrev pub NotedThere : (sizes : List ℕ) (i : ℕ) → Type 0
+NotedThere sizes i = (size : ℕ) × NotedAs sizes i size
+
+-- the size that is noted at i, and where the next one is
+abbrev pub NotedIs : (sizes : List ℕ) (i : ℕ) → Size → Type 0
+NotedIs sizes i m = (size : ℕ) → NotedAs sizes i size → (m .bytes ≡ size) × (m .next ≡ i + noteBytes size)
+
 -- the kind of the row that an element makes or closes, by its token: 07, 87, 8A, 8C are 1 to 4
 abbrev pub kindBy : (token : ℕ) → ℕ
 kindBy token = (token % 16 + 4 * (token / 128)) / 4
+
+-- where its data start
+abbrev pub startBy : (at token : ℕ) → ℕ
+startBy at token = at + 1 + 4 * (token / 128)
+
+-- The row that it makes or closes, where the data of the row before start at `origin`.
+abbrev pub rowBy : Bytes → (at origin token : ℕ) → Row
+rowBy s at origin token =
+    entry (kindBy token) (pick (eqb (token / 128) 0) 0 (idAt s at)) (pick (eqb (kindBy token / 3) 0) (startBy at token) origin)
+    (pick (eqb (kindBy token % 4 / 3) 0) 0 (startBy at token))
+
+-- an entry is that row, where an id that stands behind the token is whole
+pub record EntryAt (s : Bytes) (at origin : ℕ) (e : Entry) : Type 0 where
+  pub kind : e .kind ≡ kindBy (getD s at 0)
+  pub low : e .kind ≤ 4
+  pub same : (1 ≤ getD s at 0 / 128 → at + 5 ≤ length s) → entry (e .kind) (e .id) (e .original) (e .update) ≡ rowBy s at origin (getD s at 0)
+  pub small : SmallRow (entry (e .kind) (e .id) (e .original) (e .update))
+
+-- room for sizes
+pub record RoomForSizes (sizes : List ℕ) : Type 0 where
+  pub some : 1 ≤ length sizes
+  pub most : length sizes ≤ 16777216

@@ -1,6 +1,6 @@
 -- Promise: the row table that a caller lends (document 01, "Rows"): four numbers a row.
 -- Assumes nothing.
-use Prim.Native.Nat.{ℕ, _+_, _*_, _/_}
+use Prim.Native.Nat.{ℕ, _+_, _*_, _/_, _<_}
 use mathlib.Core.Path.{_≡_}
 use mathlib.Core.List.{List, [], _∷_, _++_}
 use lib.ListN.{length}
@@ -61,3 +61,12 @@ toldRows (read.Refused e) = refused e
 pub record Listed (rs : Read (List Row)) (entry exit : List ℕ) (answer : RowsRead) : Type 0 where
   pub answers : toldRows answer ≡ rowCount rs
   pub leaves : exit ≡ tableAfter rs entry
+
+-- Inner.
+
+-- a row whose numbers have room in the table
+pub record SmallRow (r : Row) : Type 0 where
+  pub kind : r .kind < 4294967296
+  pub id : r .id < 4294967296
+  pub original : r .original < 4294967296
+  pub update : r .update < 4294967296

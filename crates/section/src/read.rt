@@ -2,25 +2,25 @@
 ghost use mathlib.Core.Path.{_≡_};
 ghost use Prim.Native.Nat.{_≤_};
 ghost use lib.ListN.{length};
+ghost use Rattle.wire.specs.Read.{ok};
+ghost use Rattle.wire.specs.Integers.{toldInt};
 ghost use Rattle.schema.specs.Table.{schemasIn};
-ghost use Rattle.section.specs.Shapes.{Sound, Shaped};
-ghost use Rattle.section.specs.Maps.{AllMasked};
+ghost use Rattle.section.specs.Shapes.{Sound, Held, slotColumns};
+ghost use Rattle.section.specs.Ways.{dataEnd};
 ghost use Rattle.section.specs.Table.{rowsFitting, rowsRead, Listed};
-ghost use Rattle.section.specs.Scan.{Scanned};
+ghost use Rattle.section.specs.Sizes.{RoomForSizes};
+ghost use Rattle.section.specs.Scan.{Ready, Scanned};
 ghost use Rattle.section.specs.declared.read.RowsRead.the-variants as read;
 use crate::children::guesses;
+use crate::ends::patient_end;
 use crate::heads::Head;
 use crate::heads::head_at;
-use crate::masks::all_masks;
 use crate::notes::note;
-use crate::shapes::add_forms;
-use crate::shapes::add_updates;
-use crate::steps::Span;
-use crate::steps::has_word;
-use crate::steps::span_at;
+use crate::shapes::add_schemas;
+use crate::steps::pass;
 use crate::table::fill;
 use crate::table::put_row;
-use crate::ways::Way;
+use crate::ways::FAR;
 use crate::ways::way_over;
 use schema::reader::PlaceRead;
 use schema::reader::read_table;
@@ -29,6 +29,7 @@ use wire::bytes::copy_numbers;
 use wire::error::Error;
 use wire::error::ErrorKind;
 use wire::error::Input;
+use wire::integer::IntRead;
 
 // A section of up to so many bytes has no sizes noted: the rows of most are held, and to clear the notes takes time.
 const SHORT: usize = 16_384;
@@ -39,12 +40,30 @@ pub enum RowsRead {
     Refused(Error),
 }
 
+// Where the data at `start` end, for which `end` was found: there, where the section reaches so far; else the columns say where, or why not.
+fn end_of(
+    slots: &[u64; 512],
+    number: usize,
+    update: bool,
+    section: &[u8],
+    start: usize,
+    end: usize,
+) -> IntRead
+    requires { ⌜ Held (now slots) number × (end ≤ length (now section) → dataEnd update (slotColumns (now slots) number) (now section) start ≡ ok end) ⌝ }
+    ensures { λ r. ⌜ toldInt r ≡ dataEnd update (slotColumns (now (slots .entry)) number) (now (section .entry)) start ⌝ }
+{
+    if end <= section.len() {
+        return IntRead::Int(end);
+    }
+    patient_end(slots, number, update, section, start)
+}
+
 // One pass over a section: how many rows it has, or the first error. Rows that the table has room for are written into it, and the sizes of
 // the elements are noted, where there is room for all.
 fn scan<'a>(
     slots: &'a [u64; 512],
-    words: &'a [u64; 512],
-    forms: &'a [u64; 256],
+    words: &'a [usize; 512],
+    forms: &'a [usize; 256],
     masks: &'a [u64; 1024],
     numbers: &'a [u8; 256],
     schemas: usize,
@@ -52,7 +71,7 @@ fn scan<'a>(
     table: &mut [u32],
     sizes: &mut [u8],
 ) -> RowsRead
-    requires { ⌜ Sound (now slots) schemas × Shaped (now slots) (now words) (now forms) schemas × AllMasked (now slots) (now masks) schemas × (length (now section) ≤ 16777216) × (1 ≤ length (now sizes)) × (length (now sizes) ≤ 16777216) ⌝ }
+    requires { ⌜ Ready (now slots) (now words) (now forms) (now masks) schemas (now section) × RoomForSizes (now sizes) ⌝ }
     ensures { λ r. ⌜ Scanned (schemasIn 0 schemas (now (slots .entry))) (now (section .entry)) (now (table .entry)) (now (table .exit)) (now (sizes .exit)) r × (length (now (sizes .exit)) ≡ length (now (sizes .entry))) ⌝ }
 {
     let mut at = 0;
@@ -69,7 +88,7 @@ fn scan<'a>(
                 break 'section RowsRead::Rows(rows);
             }
             Head::Delete(id) => {
-                put_row(table, rows - 1, 4, id as u32, origin as u32, 0);
+                put_row(table, rows - 1, 4, id, origin, 0);
                 used = note(sizes, used, 5);
                 at += 5;
                 child = 0;
@@ -81,7 +100,7 @@ fn scan<'a>(
                 start,
             } => {
                 let update = kind == 3;
-                match way_over(
+                let way = way_over(
                     slots,
                     words,
                     forms,
@@ -91,52 +110,34 @@ fn scan<'a>(
                     update,
                     section,
                     start,
-                ) {
-                    Way::Refused(e) => {
+                );
+                let first = way.first;
+                let count = way.count;
+                let bits = way.bits;
+                let mut p = way.fields;
+                let mut j = 0;
+                while j < count {
+                    let q = pass(words[first + j], bits, section, p);
+                    if q == 0 {
+                        p = FAR;
+                        j = count;
+                    } else {
+                        p = q;
+                        j += 1;
+                    }
+                }
+                match end_of(slots, number, update, section, start, p + way.tail) {
+                    IntRead::Refused(e) => {
                         break 'section RowsRead::Refused(e);
                     }
-                    Way::Open {
-                        fields,
-                        first,
-                        count,
-                        tail,
-                        bits,
-                    } => {
-                        let mut p = fields;
-                        let mut j = 0;
-                        while j < count {
-                            let word = words[first + j];
-                            let q = p + (word / 4_294_967_296 % 65_536) as usize;
-                            let has = has_word(update, bits, word, j);
-                            match span_at(word, section, q, has) {
-                                Span::Refused(k) => {
-                                    break 'section RowsRead::Refused(Error {
-                                        kind: k,
-                                        offset: q,
-                                        input: Input::Single,
-                                    });
-                                }
-                                Span::Bytes(n) => {
-                                    p = q + n;
-                                    j += 1;
-                                }
-                            }
-                        }
-                        let end = p + tail;
-                        if section.len() < end {
-                            break 'section RowsRead::Refused(Error {
-                                kind: ErrorKind::Short,
-                                offset: section.len(),
-                                input: Input::Single,
-                            });
-                        }
+                    IntRead::Int(end) => {
                         used = note(sizes, used, end - at);
                         at = end;
                         if update {
-                            put_row(table, rows - 1, 3, id as u32, origin as u32, start as u32);
+                            put_row(table, rows - 1, 3, id, origin, start);
                             child = 0;
                         } else {
-                            put_row(table, rows, kind as u32, id as u32, start as u32, 0);
+                            put_row(table, rows, kind, id, start, 0);
                             rows += 1;
                             child = number;
                             origin = start;
@@ -165,8 +166,8 @@ fn refuse(e: Error, name: Input) -> RowsRead
 // Where the table has room for all rows, those that were held are copied; more are filled in by the sizes, or else by a second pass.
 fn read_noting<'a>(
     slots: &'a [u64; 512],
-    words: &'a [u64; 512],
-    forms: &'a [u64; 256],
+    words: &'a [usize; 512],
+    forms: &'a [usize; 256],
     masks: &'a [u64; 1024],
     numbers: &'a [u8; 256],
     schemas: usize,
@@ -174,7 +175,7 @@ fn read_noting<'a>(
     table: &mut [u32],
     sizes: &mut [u8],
 ) -> RowsRead
-    requires { ⌜ Sound (now slots) schemas × Shaped (now slots) (now words) (now forms) schemas × AllMasked (now slots) (now masks) schemas × (length (now section) ≤ 16777216) × (1 ≤ length (now sizes)) × (length (now sizes) ≤ 16777216) ⌝ }
+    requires { ⌜ Ready (now slots) (now words) (now forms) (now masks) schemas (now section) × RoomForSizes (now sizes) ⌝ }
     ensures { λ r. ⌜ Listed (rowsFitting (schemasIn 0 schemas (now (slots .entry))) (now (section .entry)) (length (now (table .entry)))) (now (table .entry)) (now (table .exit)) r ⌝ }
 {
     let mut held = [0u32; 1_024];
@@ -224,15 +225,15 @@ fn read_noting<'a>(
 // Reads a section by words, forms and masks of its schemas, with room for sizes. Those of a short section need not be noted.
 fn read_sized<'a>(
     slots: &'a [u64; 512],
-    words: &'a [u64; 512],
-    forms: &'a [u64; 256],
+    words: &'a [usize; 512],
+    forms: &'a [usize; 256],
     masks: &'a [u64; 1024],
     numbers: &'a [u8; 256],
     schemas: usize,
     section: &[u8],
     table: &mut [u32],
 ) -> RowsRead
-    requires { ⌜ Sound (now slots) schemas × Shaped (now slots) (now words) (now forms) schemas × AllMasked (now slots) (now masks) schemas × (length (now section) ≤ 16777216) ⌝ }
+    requires { ⌜ Ready (now slots) (now words) (now forms) (now masks) schemas (now section) ⌝ }
     ensures { λ r. ⌜ Listed (rowsFitting (schemasIn 0 schemas (now (slots .entry))) (now (section .entry)) (length (now (table .entry)))) (now (table .entry)) (now (table .exit)) r ⌝ }
 {
     if section.len() <= SHORT {
@@ -268,12 +269,10 @@ fn read_rows(slots: &[u64; 512], schemas: usize, section: &[u8], table: &mut [u3
     requires { ⌜ Sound (now slots) schemas × (length (now section) ≤ 16777216) ⌝ }
     ensures { λ r. ⌜ Listed (rowsFitting (schemasIn 0 schemas (now (slots .entry))) (now (section .entry)) (length (now (table .entry)))) (now (table .entry)) (now (table .exit)) r ⌝ }
 {
-    let mut words = [0u64; 512];
-    let mut forms = [0u64; 256];
+    let mut words = [0usize; 512];
+    let mut forms = [0usize; 256];
     let mut masks = [0u64; 1_024];
-    add_updates(slots, &mut words);
-    add_forms(slots, schemas, &mut words, &mut forms);
-    all_masks(slots, schemas, &mut masks);
+    add_schemas(slots, schemas, &mut words, &mut forms, &mut masks);
     let numbers = guesses(slots, schemas);
     read_sized(
         slots,

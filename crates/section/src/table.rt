@@ -7,25 +7,33 @@ ghost use Rattle.wire.specs.Read.{pick};
 ghost use Rattle.wire.specs.Output.{put};
 ghost use Rattle.grammar.specs.Grammar.{entry};
 ghost use Rattle.grammar.specs.Reader.{idAt};
-ghost use Rattle.section.specs.Table.{rowNumbers};
-ghost use Rattle.section.specs.Sizes.{Accepted};
+ghost use Rattle.section.specs.Table.{rowNumbers, SmallRow};
+ghost use Rattle.section.specs.Sizes.{EntryAt, NotedThere, NotedIs, Accepted};
 ghost use Rattle.section.specs.Scan.{Filled};
-use crate::steps::length_at;
+use wire::integer::IntRead;
+use wire::integer::u32_at;
 use wire::integer::wide;
 
 // Writes row `i` into a table, where it has room for that row.
-pub(crate) fn put_row(table: &mut [u32], i: usize, kind: u32, id: u32, original: u32, update: u32)
-    requires { ⌜ i ≤ 16777216 ⌝ }
+pub(crate) fn put_row(
+    table: &mut [u32],
+    i: usize,
+    kind: usize,
+    id: usize,
+    original: usize,
+    update: usize,
+)
+    requires { ⌜ (i ≤ 16777216) × SmallRow (entry kind id original update) ⌝ }
     ensures { λ r. ⌜ now (table .exit) ≡ put (now (table .entry)) (4 * i) (rowNumbers (entry kind id original update)) ⌝ }
 {
     let at = 4 * i;
     if table.len() < at + 4 {
         return;
     }
-    table[at] = kind;
-    table[at + 1] = id;
-    table[at + 2] = original;
-    table[at + 3] = update;
+    table[at] = kind as u32;
+    table[at + 1] = id as u32;
+    table[at + 2] = original as u32;
+    table[at + 3] = update as u32;
 }
 
 // The four bytes behind the one at `at` as a number; 0 where they are not whole.
@@ -33,10 +41,10 @@ fn id_behind(section: &[u8], at: usize) -> usize
     requires { ⌜ at ≤ 16777216 ⌝ }
     ensures { λ r. ⌜ (r < 4294967296) × (at + 5 ≤ length (now (section .entry)) → r ≡ idAt (now (section .entry)) at) ⌝ }
 {
-    if section.len() < at + 5 {
-        return 0;
+    match u32_at(section, at + 1) {
+        IntRead::Refused(e) => 0,
+        IntRead::Int(id) => id,
     }
-    length_at(section, at + 1, 4)
 }
 
 // The first of two numbers, or the second where `second` is 1.
@@ -49,7 +57,60 @@ fn chosen(first: usize, other: usize, second: usize) -> usize
     other
 }
 
-// Fills the table with the rows of a section that was accepted, from size to size. No branch depends on which element it is.
+// The entry of a row: its four numbers.
+pub struct Entry {
+    pub kind: usize,
+    pub id: usize,
+    pub original: usize,
+    pub update: usize,
+}
+
+// The entry that the element at `at` makes or closes, where the data of the row before start at `origin`. No branch depends on which it is.
+fn entry_at(section: &[u8], at: usize, origin: usize) -> Entry
+    requires { ⌜ (at < length (now section)) × (origin ≤ length (now section)) × (length (now section) ≤ 16777216) ⌝ }
+    ensures { λ r. ⌜ EntryAt (now (section .entry)) at origin r ⌝ }
+{
+    let token = wide(section[at]);
+    let child = token / 128;
+    let kind = (token % 16 + 4 * child) / 4;
+    let start = at + 1 + 4 * child;
+    let id = chosen(0, id_behind(section, at), child);
+    let original = chosen(start, origin, kind / 3);
+    let update = chosen(0, start, kind % 4 / 3);
+    Entry {
+        kind,
+        id,
+        original,
+        update,
+    }
+}
+
+// A size that was noted, and where the next one is.
+pub struct Size {
+    pub bytes: usize,
+    pub next: usize,
+}
+
+// The size that is noted at `i`.
+fn noted_at(sizes: &[u8], i: usize) -> Size
+    requires { ⌜ NotedThere (now sizes) i × (length (now sizes) ≤ 16777216) ⌝ }
+    ensures { λ r. ⌜ NotedIs (now (sizes .entry)) i r ⌝ }
+{
+    let size = wide(sizes[i]);
+    if size < 255 {
+        return Size {
+            bytes: size,
+            next: i + 1,
+        };
+    }
+    let long = 256 * wide(sizes[i + 1]) + wide(sizes[i + 2]);
+    Size {
+        bytes: long,
+        next: i + 3,
+    }
+}
+
+// Fills the table with the rows of a section that was accepted, from size to size.
 pub(crate) fn fill<'a>(section: &'a [u8], sizes: &'a [u8], table: &mut [u32])
     requires { ⌜ Accepted (now section) (now sizes) × (length (now section) ≤ 16777216) × (length (now sizes) ≤ 16777216) ⌝ }
     ensures { λ r. ⌜ Filled (now (section .entry)) (now (sizes .entry)) (now (table .entry)) (now (table .exit)) ⌝ }
@@ -59,29 +120,12 @@ pub(crate) fn fill<'a>(section: &'a [u8], sizes: &'a [u8], table: &mut [u32])
     let mut origin = 0;
     let mut i = 0;
     while section[at] != 0x0F {
-        let token = wide(section[at]);
-        let child = token / 128;
-        let kind = (token % 16 + 4 * child) / 4;
-        let start = at + 1 + 4 * child;
-        let id = chosen(0, id_behind(section, at), child);
-        let update = chosen(0, start, kind % 4 / 3);
-        origin = chosen(start, origin, kind / 3);
-        rows += 1 - kind / 3;
-        put_row(
-            table,
-            rows - 1,
-            kind as u32,
-            id as u32,
-            origin as u32,
-            update as u32,
-        );
-        let size = wide(sizes[i]);
-        if size < 255 {
-            at += size;
-            i += 1;
-        } else {
-            at += 256 * wide(sizes[i + 1]) + wide(sizes[i + 2]);
-            i += 3;
-        }
+        let row = entry_at(section, at, origin);
+        let size = noted_at(sizes, i);
+        rows += 1 - row.kind / 3;
+        put_row(table, rows - 1, row.kind, row.id, row.original, row.update);
+        origin = row.original;
+        at += size.bytes;
+        i = size.next;
     }
 }

@@ -30,12 +30,12 @@ returns-2 c =
     (note-three (args .sizes .now) (args .i) (args .size) (if1 .taken) (c .before .if2 .left), (simp length-set (omega (arith, if1 .taken))))
 
 slice-write-sizes-5 : tie.Need-slice-write-sizes-5
-slice-write-sizes-5 c = omega (arith, c .before .pre .0)
+slice-write-sizes-5 c = omega (arith, c .before .pre .0 .some)
 
 returns-3 : tie.Need-returns-3
 returns-3 c =
     let args = c .before .args in
-    (note-none (args .sizes .now) (args .i) (args .size) (c .before .pre .0), (omega arith))
+    (note-none (args .sizes .now) (args .i) (args .size) (c .before .pre .0 .some), (omega arith))
 
 pub note-spec : {M : Type 1} → statement M
 note-spec =

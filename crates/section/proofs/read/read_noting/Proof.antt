@@ -27,7 +27,7 @@ told : (a : tie.After-n) → (rs : List Row) × (section (schemasIn 0 ((a .befor
 told a = rows-told (section (schemasIn 0 ((a .before .before .before .before .before .before .before .before .before .before .before .args) .schemas) ((a .before .before .before .before .before .before .before .before .before .before .before .args) .slots .now)) ((a .before .before .before .before .before .before .before .before .before .before .before .args) .section .now)) ((a .n) .given .0 .0) (ap toldRows (sym ((a .n) .given .1)) ∙ (a .before .before .before .before .before .scan) .ensures .0 .answers)
 
 top : (a : tie.Start) → 1 ≤ length (schemasIn 0 ((a .args) .schemas) ((a .args) .slots .now))
-top a = omega (arith, (a .pre) .0 .top, schemas-in-length 0 ((a .args) .schemas) ((a .args) .slots .now))
+top a = omega (arith, (a .pre) .0 .sound .top, schemas-in-length 0 ((a .args) .schemas) ((a .args) .slots .now))
 
 returns : tie.Need-returns
 returns c =
@@ -63,7 +63,7 @@ fill-requires c κs =
     let pre = c .before .before .before .before .before .before .before .before .before .before .before .before .before .before .before .before .before .before .pre in
     let scan = c .before .before .before .before .before .before .before .before .before .before .before .before .scan in
     let if3 = c .before .before .if3 in
-    let (rs, q, z) = told (c .before .before .before .before .before .before .before) in (accepted (schemasIn 0 (args .schemas) (args .slots .now)) (args .section .now) _ rs (top (c .before .before .before .before .before .before .before .before .before .before .before .before .before .before .before .before .before .before)) q (scan .ensures .0 .notes rs q) (if3 .taken), pre .3, omega (arith, scan .ensures .1, pre .5))
+    let (rs, q, z) = told (c .before .before .before .before .before .before .before) in (accepted (schemasIn 0 (args .schemas) (args .slots .now)) (args .section .now) _ rs (top (c .before .before .before .before .before .before .before .before .before .before .before .before .before .before .before .before .before .before)) q (scan .ensures .0 .notes rs q) (if3 .taken), pre .0 .sized, omega (arith, scan .ensures .1, pre .1 .most))
 
 same-length-4 : tie.Need-same-length-4
 same-length-4 c =
@@ -87,7 +87,7 @@ scan-requires-2 : tie.Need-scan-requires-2
 scan-requires-2 c κs =
     let pre = c .before .before .before .before .before .before .before .before .before .before .before .before .before .before .before .before .before .before .pre in
     let scan = c .before .before .before .before .before .before .before .before .before .before .before .before .scan in
-    (pre .0, pre .1, pre .2, pre .3, omega (arith, scan .ensures .1, pre .4), omega (arith, scan .ensures .1, pre .5))
+    (pre .0, record { some = omega (arith, scan .ensures .1, pre .1 .some); most = omega (arith, scan .ensures .1, pre .1 .most) })
 
 returns-4 : tie.Need-returns-4
 returns-4 c =

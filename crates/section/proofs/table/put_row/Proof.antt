@@ -35,10 +35,14 @@ put-row-spec =
     (λ c. search needs)
     (λ c. search needs)
     (λ c. search needs)
+    (λ c. search needs)
+    (λ c. search needs)
     slice-write-table-2
     (λ c. search needs)
     (λ c. search needs)
+    (λ c. search needs)
     slice-write-table-3
+    (λ c. search needs)
     (λ c. search needs)
     (λ c. search needs)
     slice-write-table-4
