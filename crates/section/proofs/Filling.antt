@@ -23,9 +23,9 @@ use Rattle.section.specs.declared.table.Size.{Size}
 use Rattle.section.specs.Heads.{HeadAt, headAt}
 use Rattle.section.specs.Table.{rowNumbers, SmallRow}
 use Rattle.section.specs.Scan.{laidFrom, Filled}
-use Rattle.section.specs.Sizes.{endBy, placeIn, placeOf, sizeOf, noteBytes, noteOf, NotedAs, in-one, in-three, NotedOr0, Accepted, NotedThere, NotedIs, kindBy, startBy, rowBy, EntryAt}
+use Rattle.section.specs.Sizes.{endBy, placeIn, elementStart, elementSize, noteBytes, noteStart, NotedAs, in-one, in-three, NotedOr0, Accepted, NotedThere, NotedIs, kindBy, startBy, rowBy, EntryAt}
 use Rattle.section.specs.Ways.{dataEnd}
-use Rattle.section.proofs.Turns.{HeadTold, told-done, told-delete, told-parent, told-child, told-change}
+use Rattle.section.proofs.RowsByHead.{HeadTold, told-done, told-delete, told-parent, told-child, told-change}
 use Rattle.section.proofs.Scan.{allRows, AtElement, Begun, at-start, told, head-refused, head-done, deleted, Ahead, head-ahead, data-refused, data-inside, row-ended, change-ended, table-long}
 use Rattle.section.proofs.Noting.{bytes-one, bytes-three, data-ends, delete-ends}
 
@@ -226,11 +226,11 @@ pub record AtFill (s : Bytes) (sizes : List ℕ) (a : Accepted s sizes) (entry t
   pub low : origin ≤ length s
   pub elements : ℕ
   pub few : elements ≤ a .all .elements
-  pub place : at ≡ placeOf (a .schemas) s elements
-  pub next : i ≡ noteOf (a .schemas) s elements
+  pub place : at ≡ elementStart (a .schemas) s elements
+  pub next : i ≡ noteStart (a .schemas) s elements
 
 pub fill-start : (s : Bytes) (sizes : List ℕ) (a : Accepted s sizes) (table : List ℕ) → AtFill s sizes a table table 0 0 0 0
-unfolding placeOf noteOf
+unfolding elementStart noteStart
 fill-start s sizes a table =
     record {
       pending = nothing;
@@ -271,14 +271,14 @@ module _ (s : Bytes) (sizes : List ℕ) (a : Accepted s sizes) (entry₀ table :
     more = by (eq-or-lt-of-le (f .few))
       where
         by : (f .elements ≡ a .all .elements) ⊎ (f .elements < a .all .elements) → f .elements < a .all .elements
-        by (inl e) = absurd (n (byte-of _ doneToken (ap (λ (j : ℕ). tokenOf (getD s j 0)) (f .place ∙ ap (placeOf S s) e) ∙ a .all .ends)))
+        by (inl e) = absurd (n (byte-of _ doneToken (ap (λ (j : ℕ). tokenOf (getD s j 0)) (f .place ∙ ap (elementStart S s) e) ∙ a .all .ends)))
         by (inr l) = l
 
-    place-next : fill-taken .end ≡ placeOf S s (suc (f .elements))
-    unfolding placeOf
+    place-next : fill-taken .end ≡ elementStart S s (suc (f .elements))
+    unfolding elementStart
     place-next = ap placeIn (sym (fill-taken .ends)) ∙ ap (λ (q : ℕ). placeIn (endBy S s q (tokenOf (getD s q 0)))) (f .place)
 
-    size-same : sizeOf S s (f .elements) ≡ fill-taken .end - at
+    size-same : elementSize S s (f .elements) ≡ fill-taken .end - at
     size-same = rw (place-next, f .place) refl
 
     pub size-noted : NotedAs sizes i (fill-taken .end - at)
@@ -289,14 +289,14 @@ module _ (s : Bytes) (sizes : List ℕ) (a : Accepted s sizes) (entry₀ table :
       abbrev row : Row
       row = entry (e .kind) (e .id) (e .original) (e .update)
 
-      row-same : row ≡ rowBy s at origin (getD s at 0)
-      row-same = same .same (fill-taken .whole)
+      entry-same : row ≡ rowBy s at origin (getD s at 0)
+      entry-same = same .same (fill-taken .whole)
 
-      pub row-some : 1 ≤ rows + (1 - e .kind / 3)
-      row-some = rw (same .kind) (fill-taken .some)
+      pub entry-some : 1 ≤ rows + (1 - e .kind / 3)
+      entry-some = rw (same .kind) (fill-taken .some)
 
-      pub row-fits : length s ≤ 16777216 → (rows + (1 - e .kind / 3) - 1 ≤ 16777216) × SmallRow row
-      row-fits l = (omega (arith, f .element .few, f .element .inside), same .small)
+      pub entry-fits : length s ≤ 16777216 → (rows + (1 - e .kind / 3) - 1 ≤ 16777216) × SmallRow row
+      entry-fits l = (omega (arith, f .element .few, f .element .inside), same .small)
 
       module _ (m : Size) (reads : NotedIs sizes i m) where
         pub size-onward : (at < at + m .bytes) × (at + m .bytes ≤ length s)
@@ -309,14 +309,14 @@ module _ (s : Bytes) (sizes : List ℕ) (a : Accepted s sizes) (entry₀ table :
         original-low false = f .low
 
         pub fill-next : AtFill s sizes a entry₀ (put table (4 * (rows + (1 - e .kind / 3) - 1)) (rowNumbers row)) (at + m .bytes) (rows + (1 - e .kind / 3)) (e .original) (m .next)
-        unfolding noteOf
+        unfolding noteStart
         fill-next =
             let (z, y) = reads _ size-noted in
             let q : at + m .bytes ≡ fill-taken .end = omega (arith, z, fill-taken .onward) in
-            let g : e .original ≡ rowBy s at origin (getD s at 0) .original = ap (λ (r : Row). r .original) row-same in
+            let g : e .original ≡ rowBy s at origin (getD s at 0) .original = ap (λ (r : Row). r .original) entry-same in
             record {
               pending = fill-taken .pending;
-              element = rw (q, row-same, same .kind) (fill-taken .element);
+              element = rw (q, entry-same, same .kind) (fill-taken .element);
               begun = rw g (fill-taken .begun);
               low = rw g (original-low (eqb (kindBy (getD s at 0) / 3) 0));
               elements = suc (f .elements);

@@ -16,14 +16,14 @@ use Rattle.grammar.specs.Grammar.{Before, columnsAt}
 use Rattle.grammar.specs.Reader.{doneToken, tokenOf, knownChild}
 use Rattle.section.specs.Heads.{deleteHead, dataHead}
 use Rattle.section.specs.Ways.{dataEnd}
-use Rattle.section.specs.Sizes.{endBy, placeIn, placeOf, sizeOf, noteBytes, noteOf, NotedAs, in-one, in-three, Noted, NotedOr0, NotedAt}
-use Rattle.section.proofs.Turns.{HeadTold, told-delete, told-parent, told-child, told-change}
+use Rattle.section.specs.Sizes.{endBy, placeIn, elementStart, elementSize, noteBytes, noteStart, NotedAs, in-one, in-three, Noted, NotedOr0, NotedAt}
+use Rattle.section.proofs.RowsByHead.{HeadTold, told-delete, told-parent, told-child, told-change}
 
 -- Before an element at `at`, the sizes of all before it are noted, in so many bytes.
 pub record NotedTo (S : List Schema) (s : Bytes) (sizes : List ℕ) (at used : ℕ) : Type 0 where
   pub elements : ℕ
-  pub place : at ≡ placeOf S s elements
-  pub next : used ≡ noteOf S s elements
+  pub place : at ≡ elementStart S s elements
+  pub next : used ≡ noteStart S s elements
   pub noted : Noted S s sizes elements
 
 -- or the first is 0, and stays 0
@@ -31,7 +31,7 @@ abbrev pub AtNote : List Schema → Bytes → (sizes : List ℕ) (at used : ℕ)
 AtNote S s sizes at used = ((getD sizes 0 0 ≡ 0) × (1 ≤ used)) ⊎ NotedTo S s sizes at used
 
 pub noted-start : (S : List Schema) (s : Bytes) (sizes : List ℕ) → NotedTo S s sizes 0 0
-unfolding placeOf noteOf
+unfolding elementStart noteStart
 noted-start S s sizes = record { elements = 0; place = refl; next = refl; noted = λ j h. absurd (omega (arith, h)) }
 
 pub bytes-one : (size : ℕ) → size < 255 → noteBytes size ≡ 1
@@ -43,8 +43,8 @@ unfolding noteBytes
 bytes-three size h = simp (le-ltb _ _ h)
 
 -- notes go on
-note-onward : (S : List Schema) (s : Bytes) (i n : ℕ) → noteOf S s i ≤ noteOf S s (i + n)
-unfolding noteOf
+note-onward : (S : List Schema) (s : Bytes) (i n : ℕ) → noteStart S s i ≤ noteStart S s (i + n)
+unfolding noteStart
 note-onward S s i zero = let z : i + 0 ≡ i = omega arith in rw z (omega arith)
 note-onward S s i (suc n) =
     let z : i + suc n ≡ suc (i + n) = omega arith in
@@ -52,31 +52,31 @@ note-onward S s i (suc n) =
 
 module _ (S : List Schema) (s : Bytes) where
   -- a note before another is not touched by it
-  note-stays : (entry exit : List ℕ) (n j : ℕ) → length exit ≡ length entry → ((i : ℕ) → i < noteOf S s n → getD exit i 0 ≡ getD entry i 0) → j < n →
-      NotedAs entry (noteOf S s j) (sizeOf S s j) → NotedAs exit (noteOf S s j) (sizeOf S s j)
-  unfolding noteOf
+  note-stays : (entry exit : List ℕ) (n j : ℕ) → length exit ≡ length entry → ((i : ℕ) → i < noteStart S s n → getD exit i 0 ≡ getD entry i 0) → j < n →
+      NotedAs entry (noteStart S s j) (elementSize S s j) → NotedAs exit (noteStart S s j) (elementSize S s j)
+  unfolding noteStart
   note-stays entry exit n j l k h =
       let z : suc j + (n - suc j) ≡ n = omega arith in
-      let f : noteOf S s (suc j) ≤ noteOf S s n = rw z at (note-onward S s (suc j) (n - suc j)) in
+      let f : noteStart S s (suc j) ≤ noteStart S s n = rw z at (note-onward S s (suc j) (n - suc j)) in
       go f
     where
-      go : noteOf S s j + noteBytes (sizeOf S s j) ≤ noteOf S s n → NotedAs entry (noteOf S s j) (sizeOf S s j) → NotedAs exit (noteOf S s j) (sizeOf S s j)
-      go f (in-one x y i) = in-one x (k _ (omega (arith, f, bytes-one (sizeOf S s j) x)) ∙ y) (omega (arith, l, i))
+      go : noteStart S s j + noteBytes (elementSize S s j) ≤ noteStart S s n → NotedAs entry (noteStart S s j) (elementSize S s j) → NotedAs exit (noteStart S s j) (elementSize S s j)
+      go f (in-one x y i) = in-one x (k _ (omega (arith, f, bytes-one (elementSize S s j) x)) ∙ y) (omega (arith, l, i))
       go f (in-three x y v i) =
-          let b = bytes-three (sizeOf S s j) x in
-          let c : getD exit (noteOf S s j + 1) 0 ≡ getD entry (noteOf S s j + 1) 0 = k _ (omega (arith, f, b)) in
-          let d : getD exit (noteOf S s j + 2) 0 ≡ getD entry (noteOf S s j + 2) 0 = k _ (omega (arith, f, b)) in
+          let b = bytes-three (elementSize S s j) x in
+          let c : getD exit (noteStart S s j + 1) 0 ≡ getD entry (noteStart S s j + 1) 0 = k _ (omega (arith, f, b)) in
+          let d : getD exit (noteStart S s j + 2) 0 ≡ getD entry (noteStart S s j + 2) 0 = k _ (omega (arith, f, b)) in
           in-three x (k _ (omega (arith, f, b)) ∙ y) (rw (c, d) v) (omega (arith, l, i))
 
   module _ (entry exit : List ℕ) (at used e next : ℕ) (h : endBy S s at (tokenOf (getD s at 0)) ≡ ok e) (n : NotedAt entry exit used (e - at) next) where
     -- one more of those that are noted
     one-noted : (t : NotedTo S s entry at used) → NotedAs exit used (e - at) → next ≡ used + noteBytes (e - at) → ((j : ℕ) → j < used → getD exit j 0 ≡ getD entry j 0) →
         NotedTo S s exit e next
-    unfolding placeOf noteOf
+    unfolding elementStart noteStart
     one-noted t a x k =
         let j : ℕ = t .elements in
-        let p : e ≡ placeOf S s (suc j) = ap placeIn (sym h) ∙ ap (λ (q : ℕ). placeIn (endBy S s q (tokenOf (getD s q 0)))) (t .place) in
-        let z : e - at ≡ sizeOf S s j = rw (p, t .place) refl in
+        let p : e ≡ elementStart S s (suc j) = ap placeIn (sym h) ∙ ap (λ (q : ℕ). placeIn (endBy S s q (tokenOf (getD s q 0)))) (t .place) in
+        let z : e - at ≡ elementSize S s j = rw (p, t .place) refl in
         record {
           elements = suc j;
           place = p;
@@ -84,7 +84,7 @@ module _ (S : List Schema) (s : Bytes) where
           noted = λ i l. by i (eq-or-lt-of-le (omega (arith, l))) a z;
         }
       where
-        by : (i : ℕ) → (i ≡ t .elements) ⊎ (i < t .elements) → NotedAs exit used (e - at) → e - at ≡ sizeOf S s (t .elements) → NotedAs exit (noteOf S s i) (sizeOf S s i)
+        by : (i : ℕ) → (i ≡ t .elements) ⊎ (i < t .elements) → NotedAs exit used (e - at) → e - at ≡ elementSize S s (t .elements) → NotedAs exit (noteStart S s i) (elementSize S s i)
         by i (inr m) a z = note-stays entry exit (t .elements) i (n .long) (λ q r. k q (omega (arith, r, t .next))) m (t .noted i m)
         by i (inl m) a z = rw m (rw (t .next, z) at a)
 

@@ -31,7 +31,7 @@ use Rattle.section.specs.Ways.{dataOn, dataStops, Leads, Led, Shut}
 use Rattle.section.specs.Maps.{Masked, AllMasked, Keeps}
 use Rattle.wire.proofs.MapBits.{bit-small, or-bit, without-bit}
 use Rattle.section.proofs.MapRules.{set-by, row-opens, update-opens}
-use Rattle.section.proofs.Growth.{one-most}
+use Rattle.section.proofs.StopsMade.{one-most}
 use Rattle.section.proofs.Slots.{length-slots, slot-bytes}
 
 -- what code asks of a stop: its bit says whether the field is there, its size is that of its prefix

@@ -36,22 +36,22 @@ placeIn (ok e) = e
 placeIn (bad code offset about) = 0
 
 -- where element number j starts
-unfoldable pub placeOf : List Schema → Bytes → (j : ℕ) → ℕ
-placeOf S s zero = 0
-placeOf S s (suc j) = placeIn (endBy S s (placeOf S s j) (tokenOf (getD s (placeOf S s j) 0)))
+unfoldable pub elementStart : List Schema → Bytes → (j : ℕ) → ℕ
+elementStart S s zero = 0
+elementStart S s (suc j) = placeIn (endBy S s (elementStart S s j) (tokenOf (getD s (elementStart S s j) 0)))
 
 -- the bytes that it takes
-abbrev pub sizeOf : List Schema → Bytes → (j : ℕ) → ℕ
-sizeOf S s j = placeOf S s (suc j) - placeOf S s j
+abbrev pub elementSize : List Schema → Bytes → (j : ℕ) → ℕ
+elementSize S s j = elementStart S s (suc j) - elementStart S s j
 
 -- a size under 255 is noted in one byte, a longer one in three
 unfoldable pub noteBytes : (size : ℕ) → ℕ
 noteBytes size = pick (ltb size 255) 1 3
 
 -- where the size of element number j is noted
-unfoldable pub noteOf : List Schema → Bytes → (j : ℕ) → ℕ
-noteOf S s zero = 0
-noteOf S s (suc j) = noteOf S s j + noteBytes (sizeOf S s j)
+unfoldable pub noteStart : List Schema → Bytes → (j : ℕ) → ℕ
+noteStart S s zero = 0
+noteStart S s (suc j) = noteStart S s j + noteBytes (elementSize S s j)
 
 -- a size is noted at i
 pub data NotedAs (sizes : List ℕ) (i size : ℕ) : Type 0 where
@@ -60,13 +60,13 @@ pub data NotedAs (sizes : List ℕ) (i size : ℕ) : Type 0 where
 
 -- the sizes of the first n elements are noted
 abbrev pub Noted : List Schema → Bytes → (sizes : List ℕ) (n : ℕ) → Type 0
-Noted S s sizes n = (j : ℕ) → j < n → NotedAs sizes (noteOf S s j) (sizeOf S s j)
+Noted S s sizes n = (j : ℕ) → j < n → NotedAs sizes (noteStart S s j) (elementSize S s j)
 
 -- those of all elements, up to the done token
 pub record AllNoted (S : List Schema) (s : Bytes) (sizes : List ℕ) : Type 0 where
   pub elements : ℕ
   pub noted : Noted S s sizes elements
-  pub ends : tokenOf (getD s (placeOf S s elements) 0) ≡ doneToken
+  pub ends : tokenOf (getD s (elementStart S s elements) 0) ≡ doneToken
 
 -- Where not all sizes could be noted, the first is 0, which no element has.
 abbrev pub NotedOr0 : List Schema → Bytes → (sizes : List ℕ) → Type 0

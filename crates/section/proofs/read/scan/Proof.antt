@@ -13,7 +13,7 @@ use Rattle.section.specs.Ways.{dataEnd}
 use Rattle.section.proofs.Slots.{sound-held}
 use Rattle.section.proofs.Scan.{Ahead}
 use Rattle.section.proofs.Scanning.{AtScan, scan-start, scan-refused, ScanDeleted, scan-deleted, scan-ahead, ahead-number, row-fits, change-fits, scan-data-refused, data-end, change-some, scan-row-ended, scan-change-ended, scan-long, scanned-rows, scanned-refused}
-use Rattle.section.proofs.OnWay.{AtWord, word-start, word-few, word-inside, word-next, word-far, word-end}
+use Rattle.section.proofs.EndByWords.{AtWord, word-start, word-few, word-inside, word-next, word-far, word-end}
 use borrow.Author.Needs.{needs}
 use Rattle.section.proofs.read.scan.Statement.{statement}
 use Rattle.section.proofs.read.scan.Tie as tie

@@ -2,7 +2,7 @@
 -- Assumes nothing.
 use Prim.Native.Nat.{_-_}
 use native.Mathlib.Omega.{arith}
-use Rattle.section.proofs.Growth.{Forming, forms-start, forms-room, forms-next, forms-end}
+use Rattle.section.proofs.StopsMade.{Forming, forms-start, forms-room, forms-next, forms-end}
 use mathlib.Core.Path.{_∙_}
 use borrow.Author.Needs.{needs}
 use Rattle.section.proofs.shapes.add_schemas.Statement.{statement}

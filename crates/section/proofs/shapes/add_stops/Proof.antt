@@ -9,7 +9,7 @@ use lib.ListN.{getD}
 use Rattle.column.proofs.Stops.{width-few}
 use Rattle.row.specs.Presence.{one}
 use Rattle.section.proofs.Slots.{inSlots, length-slots, slot-at}
-use Rattle.section.proofs.Growth.{Growing, one-most, grow-start, grow-stop, grow-plain, grow-fits, grow-end}
+use Rattle.section.proofs.StopsMade.{Growing, one-most, grow-start, grow-stop, grow-plain, grow-fits, grow-end}
 use borrow.Author.Needs.{needs}
 use Rattle.section.proofs.shapes.add_stops.Statement.{statement}
 use Rattle.section.proofs.shapes.add_stops.Tie as tie

@@ -5,7 +5,7 @@ use mathlib.Core.Path.{sym, _∙_}
 use native.Mathlib.Omega.{arith}
 use lib.ListN.{getD}
 use Rattle.section.proofs.Slots.{inSlots, length-slots, slot-at}
-use Rattle.section.proofs.Growth.{Updating, updates-start, updates-next, updates-end, updates-none}
+use Rattle.section.proofs.StopsMade.{Updating, updates-start, updates-next, updates-end, updates-none}
 use borrow.Author.Needs.{needs}
 use Rattle.section.proofs.shapes.add_updates.Statement.{statement}
 use Rattle.section.proofs.shapes.add_updates.Tie as tie

@@ -4,7 +4,7 @@ use Prim.Native.Nat.{_-_}
 use native.Mathlib.Omega.{arith}
 use lib.ListN.{length}
 use Rattle.section.specs.Sizes.{Accepted}
-use Rattle.section.proofs.Filling.{AtFill, fill-start, fill-inside, fill-done, fill-long, size-noted, row-some, row-fits, size-onward, fill-next}
+use Rattle.section.proofs.Filling.{AtFill, fill-start, fill-inside, fill-done, fill-long, size-noted, entry-some, entry-fits, size-onward, fill-next}
 use borrow.Author.Needs.{needs}
 use Rattle.section.proofs.table.fill.Statement.{statement}
 use Rattle.section.proofs.table.fill.Tie as tie
@@ -56,7 +56,7 @@ sub-put-row c =
     let shared-slice-known = c .before .before .before .before .before .before .before .before .before .shared-slice-known in
     let if1 = c .before .before .before .before .if1 in
     let entry-at = c .before .before .before .entry-at in
-    row-some _ _ (pre .0) _ _ _ _ _ _ (held (c .before .before .before .before .before .before)) (λ x. shared-slice-known .given x .fits) (if1 .taken) _ (entry-at .ensures)
+    entry-some _ _ (pre .0) _ _ _ _ _ _ (held (c .before .before .before .before .before .before)) (λ x. shared-slice-known .given x .fits) (if1 .taken) _ (entry-at .ensures)
 
 put-row-requires : tie.Need-put-row-requires Inv-loop μ-loop
 put-row-requires c κs =
@@ -64,7 +64,7 @@ put-row-requires c κs =
     let shared-slice-known = c .before .before .before .before .before .before .before .before .before .shared-slice-known in
     let if1 = c .before .before .before .before .if1 in
     let entry-at = c .before .before .before .entry-at in
-    row-fits _ _ (pre .0) _ _ _ _ _ _ (held (c .before .before .before .before .before .before)) (λ x. shared-slice-known .given x .fits) (if1 .taken) _ (entry-at .ensures) (pre .1)
+    entry-fits _ _ (pre .0) _ _ _ _ _ _ (held (c .before .before .before .before .before .before)) (λ x. shared-slice-known .given x .fits) (if1 .taken) _ (entry-at .ensures) (pre .1)
 
 add-at : tie.Need-add-at Inv-loop μ-loop
 add-at c =
