@@ -8,6 +8,8 @@ ghost use Rattle.schema.specs.Schemas.{asColumn};
 ghost use Rattle.schema.specs.Table.{entriesIn};
 ghost use Rattle.section.specs.Shapes.{Held, slotColumns};
 ghost use Rattle.section.specs.Ways.{dataEnd};
+use crate::shapes::PART;
+use crate::shapes::SCHEMAS;
 use column::columns::Columns;
 use column::packed::unpack;
 use row::rows::row_end;
@@ -49,9 +51,9 @@ pub(crate) fn patient_end(
     requires { ⌜ Held (now slots) number ⌝ }
     ensures { λ r. ⌜ toldInt r ≡ dataEnd update (slotColumns (now (slots .entry)) number) (now (section .entry)) start ⌝ }
 {
-    let slot = slots[256 + number];
-    let first = (slot % 65_536) as usize;
-    let count = (slot / 65_536 % 65_536) as usize;
+    let slot = slots[SCHEMAS + number];
+    let first = (slot % PART) as usize;
+    let count = (slot / PART % PART) as usize;
     let columns = columns_in(slots, first, count);
     if update {
         return update_end(columns, section, start);

@@ -16,16 +16,26 @@ use wire::bits::map_bytes;
 // How far behind the words of original rows those of update data stand.
 pub(crate) const UPDATES: usize = 256;
 
+// Where the slots of schemas start in a table, and the room of a slot's two lowest parts: its first column's slot, its count of columns.
+pub(crate) const SCHEMAS: usize = 256;
+
+pub(crate) const PART: u64 = 65_536;
+
+// The places of a form's parts behind the first word; that word has the lowest 16 bits.
+pub(crate) const STOPS: usize = 65_536;
+
+pub(crate) const PRESENCE: usize = 16_777_216;
+
+pub(crate) const TAIL: usize = 4_294_967_296;
+
+pub(crate) const ALWAYS: usize = 281_474_976_710_656;
+
 // A form in one number.
 fn form_of(first: usize, stops: usize, presence: usize, tail: usize, always: usize) -> usize
     requires { ⌜ (first < 65536) × (stops < 256) × (presence < 256) × (tail < 65536) × (always < 2) ⌝ }
     ensures { λ r. ⌜ r ≡ formOf first stops presence tail always ⌝ }
 {
-    first
-        + 65_536 * stops
-        + 16_777_216 * presence
-        + 4_294_967_296 * tail
-        + 281_474_976_710_656 * always
+    first + STOPS * stops + PRESENCE * presence + TAIL * tail + ALWAYS * always
 }
 
 // The stops of original rows of the columns in `count` slots, into the words from `next` on; and the form of the schema.
@@ -99,9 +109,9 @@ pub(crate) fn add_schemas(
     let mut next = 0;
     let mut k = 0;
     while k < schemas {
-        let slot = slots[256 + k];
-        let first = (slot % 65_536) as usize;
-        let count = (slot / 65_536 % 65_536) as usize;
+        let slot = slots[SCHEMAS + k];
+        let first = (slot % PART) as usize;
+        let count = (slot / PART % PART) as usize;
         forms[k] = add_stops(slots, first, count, words, next);
         add_updates(slots, first, count, k, words, UPDATES + next);
         add_masks(slots, first, count, k, masks);

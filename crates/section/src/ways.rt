@@ -5,6 +5,12 @@ ghost use Rattle.section.specs.Shapes.{Sound, Shaped, slotColumns};
 ghost use Rattle.section.specs.Maps.{AllMasked};
 ghost use Rattle.section.specs.Ways.{WayIs};
 use crate::masks::keeps;
+use crate::shapes::ALWAYS;
+use crate::shapes::PART;
+use crate::shapes::PRESENCE;
+use crate::shapes::SCHEMAS;
+use crate::shapes::STOPS;
+use crate::shapes::TAIL;
 use crate::shapes::UPDATES;
 use wire::bits::map_bytes;
 use wire::maps::bits_at;
@@ -41,7 +47,7 @@ pub(crate) fn way_over<'a>(
     let form = forms[number];
     let bits = bits_at(section, start);
     if update {
-        let count = (slots[256 + number] / 65_536 % 65_536) as usize;
+        let count = (slots[SCHEMAS + number] / PART % PART) as usize;
         let size = map_bytes(count);
         let fields = start + 2 * size;
         let forced = bits_at(section, start + size);
@@ -53,7 +59,7 @@ pub(crate) fn way_over<'a>(
                 if kept {
                     return Way {
                         fields,
-                        first: UPDATES + form % 65_536,
+                        first: UPDATES + form % STOPS,
                         count,
                         tail: 0,
                         bits: bits ^ (bits & forced),
@@ -62,16 +68,16 @@ pub(crate) fn way_over<'a>(
             }
         }
     } else {
-        let fields = start + form / 16_777_216 % 256;
+        let fields = start + form / PRESENCE % 256;
         let clear = bits & masks[4 * number];
         if fields <= section.len() {
             if clear == 0 {
                 return Way {
                     fields,
-                    first: form % 65_536,
-                    count: form / 65_536 % 256,
-                    tail: form / 4_294_967_296 % 65_536,
-                    bits: bits | (form / 281_474_976_710_656) as u64,
+                    first: form % STOPS,
+                    count: form / STOPS % 256,
+                    tail: form / TAIL % 65_536,
+                    bits: bits | (form / ALWAYS) as u64,
                 };
             }
         }
