@@ -61,35 +61,42 @@ impl ColumnType {
 
     pub const CHAPTER: u8 = 0x88;
 
-    // What a field of the type looks like, with the width of a fixed one.
+    // What a field of the type looks like, with the width of a fixed one. The codes stand close together in each of two lists, so that
+    // each is compiled to a table and not to jumps.
     pub fn kind(self) -> Kind
         ensures { λ r. ⌜ r ≡ kindOf (self .code) ⌝ }
     {
         let code = self.code;
-        match code {
-            Self::I2 => Kind::Fixed(2),
-            Self::I4 => Kind::Fixed(4),
-            Self::R4 => Kind::Fixed(4),
-            Self::R8 => Kind::Fixed(8),
-            Self::CY => Kind::Fixed(8),
-            Self::DATE => Kind::Fixed(8),
-            Self::ERROR => Kind::Fixed(4),
-            Self::BOOL => Kind::Fixed(2),
-            Self::DECIMAL => Kind::Fixed(16),
-            Self::I1 => Kind::Fixed(1),
-            Self::UI1 => Kind::Fixed(1),
-            Self::UI2 => Kind::Fixed(2),
-            Self::UI4 => Kind::Fixed(4),
-            Self::I8 => Kind::Fixed(8),
-            Self::UI8 => Kind::Fixed(8),
-            Self::GUID => Kind::Fixed(16),
-            Self::BYTES => Kind::Variable,
-            Self::STR => Kind::Variable,
-            Self::WSTR => Kind::Wide,
-            Self::DBDATE => Kind::Fixed(6),
-            Self::DBTIME => Kind::Fixed(6),
-            Self::CHAPTER => Kind::Chapter,
-            _ => Kind::Unknown,
+        if code < Self::GUID {
+            match code {
+                Self::I2 => Kind::Fixed(2),
+                Self::I4 => Kind::Fixed(4),
+                Self::R4 => Kind::Fixed(4),
+                Self::R8 => Kind::Fixed(8),
+                Self::CY => Kind::Fixed(8),
+                Self::DATE => Kind::Fixed(8),
+                Self::ERROR => Kind::Fixed(4),
+                Self::BOOL => Kind::Fixed(2),
+                Self::DECIMAL => Kind::Fixed(16),
+                Self::I1 => Kind::Fixed(1),
+                Self::UI1 => Kind::Fixed(1),
+                Self::UI2 => Kind::Fixed(2),
+                Self::UI4 => Kind::Fixed(4),
+                Self::I8 => Kind::Fixed(8),
+                Self::UI8 => Kind::Fixed(8),
+                _ => Kind::Unknown,
+            }
+        } else {
+            match code {
+                Self::GUID => Kind::Fixed(16),
+                Self::BYTES => Kind::Variable,
+                Self::STR => Kind::Variable,
+                Self::WSTR => Kind::Wide,
+                Self::DBDATE => Kind::Fixed(6),
+                Self::DBTIME => Kind::Fixed(6),
+                Self::CHAPTER => Kind::Chapter,
+                _ => Kind::Unknown,
+            }
         }
     }
 
