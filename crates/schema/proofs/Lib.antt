@@ -15,6 +15,7 @@ pub mod Agreement
 pub mod Examples
 pub mod Heads
 pub mod Reading
+pub mod UsualForms
 pub mod Questions
 pub mod Layouts
 pub mod Coding

@@ -9,3 +9,4 @@ pub mod Questions
 pub mod Writer
 -- Inner.
 pub mod Heads
+pub mod Usual

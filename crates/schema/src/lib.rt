@@ -6,6 +6,7 @@ pub mod head;
 pub mod listing;
 pub mod number;
 pub mod reader;
+pub mod usual;
 pub mod writer;
 
 // The most columns of a file, and so the most schemas: a table has as many slots for each.

@@ -13,6 +13,7 @@ use crate::head::HeadRead;
 use crate::head::head_at;
 use crate::number::NumberRead;
 use crate::number::range_at;
+use crate::usual::read_usual;
 use column::columns::MOST_COLUMNS;
 use column::types::ColumnType;
 use wire::LIMIT;
@@ -109,15 +110,20 @@ fn read_schema(
             };
             let mut i = 0;
             while i < count {
-                match read_column(file, depth - 1, start + i, here, table) {
-                    PlaceRead::Refused(e) => {
-                        return PlaceRead::Refused(e);
+                let run = read_usual(file, here.at, start + i, count - i, table);
+                here.at = run.at;
+                i += run.count;
+                if i < count {
+                    match read_column(file, depth - 1, start + i, here, table) {
+                        PlaceRead::Refused(e) => {
+                            return PlaceRead::Refused(e);
+                        }
+                        PlaceRead::Read(next) => {
+                            here = next;
+                        }
                     }
-                    PlaceRead::Read(next) => {
-                        here = next;
-                    }
+                    i += 1;
                 }
-                i += 1;
             }
             PlaceRead::Read(here)
         }

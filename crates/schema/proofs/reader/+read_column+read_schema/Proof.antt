@@ -15,6 +15,7 @@ use Rattle.schema.specs.declared.reader.PlaceRead.{PlaceRead}
 use Rattle.schema.specs.Told.{placed, Ready, Onward, Told, toldPlace}
 use Rattle.schema.proofs.Heads.{head-inside, head-small, range-inside}
 use Rattle.schema.proofs.Reading.{column-refused, column-filled, chapter-seen, chapter-new, moves-from, schema-deep, schema-refused, schema-over, loop-next, loop-refused, loop-ends}
+use Rattle.schema.proofs.UsualForms.{behind, run-on}
 use borrow.Author.Needs.{needs}
 use native.Mathlib.Omega.{arith}
 use borrow.Fn.Kinds.{In}
@@ -30,6 +31,7 @@ use Rattle.schema.proofs.number.range_at.Reads as range-at-reads
 use Rattle.schema.proofs.reader.block.Reads as block-reads
 use Rattle.schema.proofs.reader.is_seen.Reads as is-seen-reads
 use Rattle.schema.proofs.reader.packed.Reads as packed-reads
+use Rattle.schema.proofs.usual.read_usual.Reads as read-usual-reads
 use Rattle.schema.proofs.reader.+read_column+read_schema.{statement}
 use Rattle.schema.proofs.reader.+read_column+read_schema.Tie.{close}
 
@@ -214,6 +216,8 @@ read-schema-returns : (t : ℕ) → read-schema-lts.Need-returns (
   range-at-reads.Learnt,
   block-reads.Asked,
   block-reads.Learnt,
+  read-usual-reads.Asked,
+  read-usual-reads.Learnt,
   read-column-below t,
   read-column.Post,
 ) (read-schema-at t) read-schema.Post read-schema-Inv-loop read-schema-μ-loop
@@ -229,6 +233,8 @@ read-schema-add-if2 : (t : ℕ) → read-schema-lts.Need-add-if2 (
   range-at-reads.Learnt,
   block-reads.Asked,
   block-reads.Learnt,
+  read-usual-reads.Asked,
+  read-usual-reads.Learnt,
   read-column-below t,
   read-column.Post,
 ) (read-schema-at t) read-schema.Post read-schema-Inv-loop read-schema-μ-loop
@@ -242,6 +248,8 @@ read-schema-returns-2 : (t : ℕ) → read-schema-lts.Need-returns-2 (
   range-at-reads.Learnt,
   block-reads.Asked,
   block-reads.Learnt,
+  read-usual-reads.Asked,
+  read-usual-reads.Learnt,
   read-column-below t,
   read-column.Post,
 ) (read-schema-at t) read-schema.Post read-schema-Inv-loop read-schema-μ-loop
@@ -259,6 +267,8 @@ read-schema-block-requires : (t : ℕ) → read-schema-lts.Need-block-requires (
   range-at-reads.Learnt,
   block-reads.Asked,
   block-reads.Learnt,
+  read-usual-reads.Asked,
+  read-usual-reads.Learnt,
   read-column-below t,
   read-column.Post,
 ) (read-schema-at t) read-schema.Post read-schema-Inv-loop read-schema-μ-loop
@@ -272,6 +282,8 @@ read-schema-loop-holds : (t : ℕ) → read-schema-lts.Need-loop-holds (
   range-at-reads.Learnt,
   block-reads.Asked,
   block-reads.Learnt,
+  read-usual-reads.Asked,
+  read-usual-reads.Learnt,
   read-column-below t,
   read-column.Post,
 ) (read-schema-at t) read-schema.Post read-schema-Inv-loop read-schema-μ-loop
@@ -290,33 +302,55 @@ read-schema-loop-holds t c =
       rw (x, y) refl,
     )
 
+read-schema-read-usual-requires : (t : ℕ) → read-schema-lts.Need-read-usual-requires (
+  range-at-reads.Asked,
+  range-at-reads.Learnt,
+  block-reads.Asked,
+  block-reads.Learnt,
+  read-usual-reads.Asked,
+  read-usual-reads.Learnt,
+  read-column-below t,
+  read-column.Post,
+) (read-schema-at t) read-schema.Post read-schema-Inv-loop read-schema-μ-loop
+read-schema-read-usual-requires t c κs =
+    let l = c .before .before .loop in
+    (l .inv .4 .inside, omega (arith, c .before .loop-test .taken, l .inv .2, l .inv .4 .room))
+
 read-schema-read-column-requires : (t : ℕ) → read-schema-lts.Need-read-column-requires (
   range-at-reads.Asked,
   range-at-reads.Learnt,
   block-reads.Asked,
   block-reads.Learnt,
+  read-usual-reads.Asked,
+  read-usual-reads.Learnt,
   read-column-below t,
   read-column.Post,
 ) (read-schema-at t) read-schema.Post read-schema-Inv-loop read-schema-μ-loop
 read-schema-read-column-requires t c κs =
-    let a = c .before .before .before .before .before .before .before .before .before .before .before .args in
-    let l = c .before .before .loop in
-    let z : a .depth ≡ suc (a .depth - 1) = omega (arith, c .before .before .before .before .before .before .before .before .before .if1 .left) in
-    (omega (arith, c .before .before .before .before .before .before .before .before .before .before .before .pre .0, l .inv .3, l .inv .4 .inside), (l .inv .4, omega (arith, l .inv .2, c .before .loop-test .taken)))
+    let l = c .before .before .before .before .before .before .loop in
+    let u = c .before .before .before .read-usual .ensures in (
+      omega (arith, c .before .before .before .before .before .before .before .before .before .before .before .before .before .before .before .pre .0, l .inv .3, u .further, u .inside),
+      (record { inside = u .inside; room = l .inv .4 .room; fewer = l .inv .4 .fewer }, omega (arith, l .inv .2, c .before .if3 .taken)),
+    )
 
 read-schema-returns-3 : (t : ℕ) → read-schema-lts.Need-returns-3 (
   range-at-reads.Asked,
   range-at-reads.Learnt,
   block-reads.Asked,
   block-reads.Learnt,
+  read-usual-reads.Asked,
+  read-usual-reads.Learnt,
   read-column-below t,
   read-column.Post,
 ) (read-schema-at t) read-schema.Post read-schema-Inv-loop read-schema-μ-loop
 read-schema-returns-3 t c =
-    let a = c .before .before .before .before .before .before .before .before .before .before .before .before .before .before .before .args in
-    let l = c .before .before .before .before .before .before .loop in
+    let a = c .before .before .before .before .before .before .before .before .before .before .before .before .before .before .before .before .before .before .before .args in
+    let l = c .before .before .before .before .before .before .before .before .before .before .loop in
+    let u = c .before .before .before .before .before .before .before .read-usual in
+    let n : ℕ = c .before .before .before .before .before .before .before .before .before .before .before .before .before .before .count .given .0 .0 in
+    let exit : List ℕ = u .last .1 .1 .1 .1 .0 in
     record {
-      answers = sym (loop-refused (a .file .now) (a .depth) (a .id) (placed (a .place) (a .table .now)) (c .before .before .before .before .before .before .before .before .before .before .count .given .0 .0) (c .before .before .before .before .before .before .before .before .before .before .count .given .0 .1 .0) (c .before .before .before .before .before .before .before .block .result) (c .before .before .before .before .before .before .before .before .before .before .before .before .before .if1 .left) (sym (c .before .before .before .before .before .before .before .before .before .before .before .before .range-at .ensures) ∙ ap toldNumber (c .before .before .before .before .before .before .before .before .before .before .count .given .1)) (c .before .before .before .before .before .before .before .before .if2 .left) (c .before .before .before .before .before .before .before .block .ensures) (l .i) (placed (l .here) (l .table)) (l .inv .6) (c .before .before .before .before .before .loop-test .taken) (c .before .e2 .given .0 .0)
+      answers = sym (loop-refused (a .file .now) (a .depth) (a .id) (placed (a .place) (a .table .now)) (c .before .before .before .before .before .before .before .before .before .before .before .before .before .before .count .given .0 .0) (c .before .before .before .before .before .before .before .before .before .before .before .before .before .before .count .given .0 .1 .0) (c .before .before .before .before .before .before .before .before .before .before .before .block .result) (c .before .before .before .before .before .before .before .before .before .before .before .before .before .before .before .before .before .if1 .left) (sym (c .before .before .before .before .before .before .before .before .before .before .before .before .before .before .before .before .range-at .ensures) ∙ ap toldNumber (c .before .before .before .before .before .before .before .before .before .before .before .before .before .before .count .given .1)) (c .before .before .before .before .before .before .before .before .before .before .before .before .if2 .left) (c .before .before .before .before .before .before .before .before .before .before .before .block .ensures) (l .i + u .result .count) (placed (behind (l .here) (u .result)) exit) (l .inv .6 ∙ run-on (fillSchema (a .depth - 1) (a .file .now)) (a .file .now) (a .place .columns) n (l .i) (l .here) (l .table) exit (u .result) (u .ensures)) (c .before .before .before .before .before .if3 .taken) (c .before .e2 .given .0 .0)
           (sym (c .before .before .before .read-column .ensures .answers) ∙ ap (λ (r : PlaceRead). toldPlace r (c .before .before .before .read-column .last .1 .1 .1 .1 .0)) (c .before .e2 .given .1)));
       moves = tt;
     }
@@ -326,22 +360,50 @@ read-schema-loop-again : (t : ℕ) → read-schema-lts.Need-loop-again (
   range-at-reads.Learnt,
   block-reads.Asked,
   block-reads.Learnt,
+  read-usual-reads.Asked,
+  read-usual-reads.Learnt,
   read-column-below t,
   read-column.Post,
 ) (read-schema-at t) read-schema.Post read-schema-Inv-loop read-schema-μ-loop
 read-schema-loop-again t c =
-    let a = c .before .before .before .before .before .before .before .before .before .before .before .before .before .before .before .args in
-    let l = c .before .before .before .before .before .before .loop in
+    let a = c .before .before .before .before .before .before .before .before .before .before .before .before .before .before .before .before .before .before .before .args in
+    let l = c .before .before .before .before .before .before .before .before .before .before .loop in
+    let u = c .before .before .before .before .before .before .before .read-usual in
+    let n : ℕ = c .before .before .before .before .before .before .before .before .before .before .before .before .before .before .count .given .0 .0 in
+    let between : List ℕ = u .last .1 .1 .1 .1 .0 in
     let exit : List ℕ = c .before .before .before .read-column .last .1 .1 .1 .1 .0 in
-    let m : Onward (a .file .now) (l .here) (c .before .next .given .0 .0) = rw (c .before .next .given .1) at (c .before .before .before .read-column .ensures .moves) in (
-      omega (arith, c .before .before .before .before .before .loop-test .taken),
+    let m : Onward (a .file .now) (behind (l .here) (u .result)) (c .before .next .given .0 .0) = rw (c .before .next .given .1) at (c .before .before .before .read-column .ensures .moves) in (
+      omega (arith, c .before .before .before .before .before .if3 .taken),
       l .inv .1,
       omega (arith, l .inv .2, m .columns),
-      omega (arith, l .inv .3, m .further),
+      omega (arith, l .inv .3, u .ensures .further, m .further),
       m .ready,
       omega (arith, l .inv .5, m .schemas),
-      loop-next (a .file .now) (a .depth) (a .id) (placed (a .place) (a .table .now)) (c .before .before .before .before .before .before .before .before .before .before .count .given .0 .0) (c .before .before .before .before .before .before .before .before .before .before .count .given .0 .1 .0) (c .before .before .before .before .before .before .before .block .result) (c .before .before .before .before .before .before .before .before .before .before .before .before .before .if1 .left) (sym (c .before .before .before .before .before .before .before .before .before .before .before .before .range-at .ensures) ∙ ap toldNumber (c .before .before .before .before .before .before .before .before .before .before .count .given .1)) (c .before .before .before .before .before .before .before .before .if2 .left) (c .before .before .before .before .before .before .before .block .ensures) (l .i) (placed (l .here) (l .table)) (l .inv .6) (c .before .before .before .before .before .loop-test .taken) (placed (c .before .next .given .0 .0) exit)
+      loop-next (a .file .now) (a .depth) (a .id) (placed (a .place) (a .table .now)) (c .before .before .before .before .before .before .before .before .before .before .before .before .before .before .count .given .0 .0) (c .before .before .before .before .before .before .before .before .before .before .before .before .before .before .count .given .0 .1 .0) (c .before .before .before .before .before .before .before .before .before .before .before .block .result) (c .before .before .before .before .before .before .before .before .before .before .before .before .before .before .before .before .before .if1 .left) (sym (c .before .before .before .before .before .before .before .before .before .before .before .before .before .before .before .before .range-at .ensures) ∙ ap toldNumber (c .before .before .before .before .before .before .before .before .before .before .before .before .before .before .count .given .1)) (c .before .before .before .before .before .before .before .before .before .before .before .before .if2 .left) (c .before .before .before .before .before .before .before .before .before .before .before .block .ensures) (l .i + u .result .count) (placed (behind (l .here) (u .result)) between) (l .inv .6 ∙ run-on (fillSchema (a .depth - 1) (a .file .now)) (a .file .now) (a .place .columns) n (l .i) (l .here) (l .table) between (u .result) (u .ensures)) (c .before .before .before .before .before .if3 .taken) (placed (c .before .next .given .0 .0) exit)
           (sym (c .before .before .before .read-column .ensures .answers) ∙ ap (λ (r : PlaceRead). toldPlace r exit) (c .before .next .given .1)),
+    )
+
+read-schema-loop-again-2 : (t : ℕ) → read-schema-lts.Need-loop-again-2 (
+  range-at-reads.Asked,
+  range-at-reads.Learnt,
+  block-reads.Asked,
+  block-reads.Learnt,
+  read-usual-reads.Asked,
+  read-usual-reads.Learnt,
+  read-column-below t,
+  read-column.Post,
+) (read-schema-at t) read-schema.Post read-schema-Inv-loop read-schema-μ-loop
+read-schema-loop-again-2 t c =
+    let a = c .before .before .before .before .before .before .before .before .before .before .before .before .before .before .args in
+    let l = c .before .before .before .before .before .loop in
+    let u = c .before .before .read-usual in (
+      omega (arith, u .ensures .few, c .before .before .before .before .loop-test .taken),
+      l .inv .1,
+      l .inv .2,
+      omega (arith, l .inv .3, u .ensures .further),
+      record { inside = u .ensures .inside; room = l .inv .4 .room; fewer = l .inv .4 .fewer },
+      l .inv .5,
+      l .inv .6 ∙ run-on (fillSchema (a .depth - 1) (a .file .now)) (a .file .now) (a .place .columns) (c .before .before .before .before .before .before .before .before .before .count .given .0 .0) (l .i) (l .here) (l .table) (u .last .1 .1 .1 .1 .0) (u .result) (u .ensures),
     )
 
 read-schema-returns-4 : (t : ℕ) → read-schema-lts.Need-returns-4 (
@@ -349,6 +411,8 @@ read-schema-returns-4 : (t : ℕ) → read-schema-lts.Need-returns-4 (
   range-at-reads.Learnt,
   block-reads.Asked,
   block-reads.Learnt,
+  read-usual-reads.Asked,
+  read-usual-reads.Learnt,
   read-column-below t,
   read-column.Post,
 ) (read-schema-at t) read-schema.Post read-schema-Inv-loop read-schema-μ-loop
@@ -366,6 +430,8 @@ read-schema-returns-5 : (t : ℕ) → read-schema-lts.Need-returns-5 (
   range-at-reads.Learnt,
   block-reads.Asked,
   block-reads.Learnt,
+  read-usual-reads.Asked,
+  read-usual-reads.Learnt,
   read-column-below t,
   read-column.Post,
 ) (read-schema-at t) read-schema.Post read-schema-Inv-loop read-schema-μ-loop
@@ -412,6 +478,8 @@ pub +read-column+read-schema-spec : {M : Type 1} → statement M
       range-at-reads.Learnt,
       block-reads.Asked,
       block-reads.Learnt,
+      read-usual-reads.Asked,
+      read-usual-reads.Learnt,
       read-column-below t,
       read-column.Post,
     )
@@ -437,12 +505,18 @@ pub +read-column+read-schema-spec : {M : Type 1} → statement M
     (read-schema-loop-holds t)
     (λ c. search needs)
     (λ c. search needs)
+    (read-schema-read-usual-requires t)
+    (λ c. omega (arith, c .before .read-usual .ensures .few, c .before .before .before .loop-test .taken, c .before .before .before .before .loop .inv .1))
+    (λ c. search needs)
+    (λ c. omega (arith, c .if3 .taken, c .before .before .before .before .before .loop .inv .2, c .before .before .before .before .before .loop .inv .4 .room))
     (read-schema-read-column-requires t)
     (λ c. search needs)
     (read-schema-returns-3 t)
     (λ c. search needs)
-    (λ c. search needs)
-    (λ c. search needs)
+    (λ c. omega (arith, c .before .before .before .before .before .if3 .taken, c .before .before .before .before .before .before .before .before .before .before .loop .inv .1))
+    (λ c. omega (arith, c .before .before .before .before .before .if3 .taken))
     (read-schema-loop-again t)
+    (λ c. omega (arith, c .if3 .left, c .before .before .before .before .loop-test .taken))
+    (read-schema-loop-again-2 t)
     (read-schema-returns-4 t)
     (read-schema-returns-5 t)
