@@ -1,4 +1,4 @@
--- Laws of a table's columns by value: an array is filled one column at a time, and three arrays are the columns.
+-- Laws of a table's columns by value: three arrays are filled one column at a time, and are the columns.
 -- Assumes nothing.
 use Prim.Native.Nat.{ℕ, zero, suc, _+_, _≤_, _<_}
 use mathlib.Core.Path.{_≡_, refl, sym, ap, subst, _∙_}
@@ -20,10 +20,13 @@ use Rattle.schema.specs.Questions.{selected, selectedOf, InSlots, column
 use Rattle.schema.proofs.Questions.{select-refused, select-found}
 use Rattle.schema.proofs.TableSays.{entries-length}
 
--- The first i columns from slot `start` on stand in an array, each by what g says of it.
-pub record Filling (g : Column → ℕ) (table : List ℕ) (start count : ℕ) (array : List ℕ) (i : ℕ) : Type 0 where
+-- The first i columns from slot `start` on stand in the three arrays.
+pub record Filling (table : List ℕ) (start count : ℕ) (columns : Columns) (i : ℕ) : Type 0 where
   pub few : i ≤ count
-  pub same : array ≡ padded mostColumns (map g (map asColumn (entriesIn start i table)))
+  pub counts : columns .count ≡ count
+  pub codes : columns .codes ≡ padded mostColumns (map (λ (c : Column). c .code) (map asColumn (entriesIn start i table)))
+  pub flags : columns .flags ≡ padded mostColumns (map (λ (c : Column). c .flags) (map asColumn (entriesIn start i table)))
+  pub maxima : columns .maxima ≡ padded mostColumns (map (λ (c : Column). c .maximum) (map asColumn (entriesIn start i table)))
 
 one-more :
     (g : Column → ℕ) (table : List ℕ) (n start i : ℕ) → i < n →
@@ -37,24 +40,30 @@ one-more g table (suc n) start (suc i) h =
     let z : start + suc i ≡ start + 1 + i = omega arith in
     rw (y, z) (ap (λ (l : List ℕ). g (asColumn (entryIn (getD table start 0))) ∷ l) (one-more g table n (start + 1) i (omega arith)))
 
-module _ (g : Column → ℕ) (table : List ℕ) (start count : ℕ) where
-  pub fill-start : Filling g table start count (replicate mostColumns 0) 0
+module _ (table : List ℕ) (start count : ℕ) where
+  pub fill-start : Filling table start count (record { count = count; codes = replicate mostColumns 0; flags = replicate mostColumns 0; maxima = replicate mostColumns 0 }) 0
   unfolding padded entriesIn
-  fill-start = record { few = omega arith; same = refl }
+  fill-start = record { few = omega arith; counts = refl; codes = refl; flags = refl; maxima = refl }
 
   pub fill-next :
-      {array : List ℕ} {i : ℕ} → count ≤ mostColumns → Filling g table start count array i → i < count →
-      Filling g table start count (set array i (g (asColumn (entryIn (getD table (start + i) 0))))) (i + 1)
-  fill-next {array} {i} c h l =
-      let v : ℕ = g (asColumn (entryIn (getD table (start + i) 0))) in
-      record { few = omega arith; same = ap (λ (a : List ℕ). set a i v) (h .same) ∙ one-more g table mostColumns start i (omega arith) }
+      {columns : Columns} {i : ℕ} → count ≤ mostColumns → Filling table start count columns i → i < count →
+      (c : Column) → c ≡ asColumn (entryIn (getD table (start + i) 0)) →
+      Filling table start count (record { count = columns .count; codes = set (columns .codes) i (c .code); flags = set (columns .flags) i (c .flags); maxima = set (columns .maxima) i (c .maximum) }) (i + 1)
+  fill-next {columns} {i} m h l c e =
+      record {
+        few = omega arith;
+        counts = h .counts;
+        codes = rw (e, h .codes) (one-more (λ (x : Column). x .code) table mostColumns start i (omega arith));
+        flags = rw (e, h .flags) (one-more (λ (x : Column). x .flags) table mostColumns start i (omega arith));
+        maxima = rw (e, h .maxima) (one-more (λ (x : Column). x .maximum) table mostColumns start i (omega arith));
+      }
 
-  pub fill-end :
-      {array : List ℕ} {i : ℕ} → Filling g table start count array i → count ≤ i →
-      array ≡ padded mostColumns (map g (map asColumn (entriesIn start count table)))
-  fill-end {array} {i} h l =
+  pub fill-end : {columns : Columns} {i : ℕ} → Filling table start count columns i → count ≤ i → columns ≡ layout (map asColumn (entriesIn start count table))
+  unfolding layout
+  fill-end {columns} {i} h l =
       let z : i ≡ count = omega (arith, h .few) in
-      h .same ∙ ap (λ (n : ℕ). padded mostColumns (map g (map asColumn (entriesIn start n table)))) z
+      let n : length (map asColumn (entriesIn start count table)) ≡ count = length-map (entriesIn start count table) asColumn ∙ entries-length start count table in
+      rw (h .counts, h .codes, h .flags, h .maxima, z, n) refl
 
 -- the slots of an opened schema lie inside the table
 pub opened-slots : {r : Opened} {start count schemas : ℕ} → r ≡ Block start count schemas → InSlots r → (count ≤ mostColumns) × (start + count ≤ mostFileColumns)
@@ -69,14 +78,9 @@ module _ (b : Bytes) (k : ℕ) where
       record { answers = sym a; holds = ap (λ (r : Read Columns). beside r) (sym a) }
 
   pub columned-found :
-      (ss : List Schema) (table : List ℕ) (start count : ℕ) {codes flags maxima : List ℕ} → selectedOf b k ≡ ok (selected ss (entriesIn start count table)) →
-      codes ≡ layout (map asColumn (entriesIn start count table)) .codes → flags ≡ layout (map asColumn (entriesIn start count table)) .flags →
-      maxima ≡ layout (map asColumn (entriesIn start count table)) .maxima →
-      Columned b k (record { found = Yes; columns = record { count = count; codes = codes; flags = flags; maxima = maxima } })
-  unfolding columnsOf layout
-  columned-found ss table start count {codes} {flags} {maxima} h c f m =
-      let es : List Entry = entriesIn start count table in
-      let n : length (map asColumn es) ≡ count = length-map es asColumn ∙ entries-length start count table in
+      (ss : List Schema) (es : List Entry) {columns : Columns} → selectedOf b k ≡ ok (selected ss es) → columns ≡ layout (map asColumn es) →
+      Columned b k (record { found = Yes; columns = columns })
+  unfolding columnsOf
+  columned-found ss es h l =
       let a : columnsOf b k ≡ ok (layout (map asColumn es)) = select-found b k _ ss es h in
-      let l : record { count = count; codes = codes; flags = flags; maxima = maxima } ≡ layout (map asColumn es) = rw (n, c, f, m) refl in
       record { answers = ap (λ (r : Columns). ok r) l ∙ sym a; holds = l ∙ ap (λ (r : Read Columns). beside r) (sym a) }

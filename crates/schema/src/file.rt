@@ -12,6 +12,7 @@ use crate::MOST_FILE_COLUMNS;
 use crate::reader::PlaceRead;
 use crate::reader::read_file;
 use column::columns::Columns;
+use column::packed::unpack;
 use column::types::ColumnType;
 use wire::error::Error;
 use wire::error::ErrorKind;
@@ -209,46 +210,26 @@ pub fn column_at(file: &[u8], number: usize, column: usize) -> ColumnRead
     }
 }
 
-// The type codes in `count` slots of a table.
-fn codes_of(table: &[u64; 512], start: usize, count: usize) -> [u8; 64]
+// The columns in `count` slots of a table.
+fn columns_in(table: &[u64; 512], start: usize, count: usize) -> Columns
     requires { ⌜ (count ≤ 64) × (start + count ≤ 256) ⌝ }
-    ensures { λ r. ⌜ r ≡ layout (map asColumn (entriesIn start count (now (table .entry)))) .codes ⌝ }
+    ensures { λ r. ⌜ r ≡ layout (map asColumn (entriesIn start count (now (table .entry)))) ⌝ }
 {
-    let mut codes = [0u8; 64];
+    let mut columns = Columns {
+        count,
+        codes: [0u8; 64],
+        flags: [0u8; 64],
+        maxima: [0u16; 64],
+    };
     let mut i = 0;
     while i < count {
-        codes[i] = (table[start + i] % 256) as u8;
+        let column = unpack(table[start + i] as usize);
+        columns.codes[i] = column.code;
+        columns.flags[i] = column.flags;
+        columns.maxima[i] = column.maximum;
         i += 1;
     }
-    codes
-}
-
-// The flags in `count` slots of a table.
-fn flags_of(table: &[u64; 512], start: usize, count: usize) -> [u8; 64]
-    requires { ⌜ (count ≤ 64) × (start + count ≤ 256) ⌝ }
-    ensures { λ r. ⌜ r ≡ layout (map asColumn (entriesIn start count (now (table .entry)))) .flags ⌝ }
-{
-    let mut flags = [0u8; 64];
-    let mut i = 0;
-    while i < count {
-        flags[i] = (table[start + i] / 256 % 256) as u8;
-        i += 1;
-    }
-    flags
-}
-
-// The maxima in `count` slots of a table.
-fn maxima_of(table: &[u64; 512], start: usize, count: usize) -> [u16; 64]
-    requires { ⌜ (count ≤ 64) × (start + count ≤ 256) ⌝ }
-    ensures { λ r. ⌜ r ≡ layout (map asColumn (entriesIn start count (now (table .entry)))) .maxima ⌝ }
-{
-    let mut maxima = [0u16; 64];
-    let mut i = 0;
-    while i < count {
-        maxima[i] = (table[start + i] / 65_536 % 65_536) as u16;
-        i += 1;
-    }
-    maxima
+    columns
 }
 
 // The columns of schema `number` by value.
@@ -271,15 +252,7 @@ pub fn columns_of(file: &[u8], number: usize) -> ColumnsRead
             count,
             schemas: _,
         } => {
-            let codes = codes_of(&table, start, count);
-            let flags = flags_of(&table, start, count);
-            let maxima = maxima_of(&table, start, count);
-            let columns = Columns {
-                count,
-                codes,
-                flags,
-                maxima,
-            };
+            let columns = columns_in(&table, start, count);
             ColumnsRead {
                 found: Found::Yes,
                 columns,

@@ -11,14 +11,8 @@ use borrow.Author.Needs.{needs}
 use Rattle.schema.proofs.file.columns_of.Statement.{statement}
 use Rattle.schema.proofs.file.columns_of.Tie as tie
 
-codes-of-requires : tie.Need-codes-of-requires
-codes-of-requires c κs = opened-slots (c .before .before .start .given .1) (c .before .before .before .before .open-schema .ensures .slots)
-
-flags-of-requires : tie.Need-flags-of-requires
-flags-of-requires c κs = opened-slots (c .before .before .before .before .start .given .1) (c .before .before .before .before .before .before .open-schema .ensures .slots)
-
-maxima-of-requires : tie.Need-maxima-of-requires
-maxima-of-requires c κs = opened-slots (c .before .before .before .before .before .before .start .given .1) (c .before .before .before .before .before .before .before .before .open-schema .ensures .slots)
+columns-in-requires : tie.Need-columns-in-requires
+columns-in-requires c κs = opened-slots (c .before .before .start .given .1) (c .before .before .before .before .open-schema .ensures .slots)
 
 returns : tie.Need-returns
 unfolding layout padded
@@ -26,8 +20,9 @@ returns c = columned-refused (c .before .before .before .before .before .before 
 
 returns-2 : tie.Need-returns-2
 returns-2 c =
-    let exit : List ℕ = c .before .before .before .before .before .before .before .before .before .open-schema .last .1 .1 .0 in
-    columned-found (c .before .before .before .before .before .before .before .before .before .before .before .before .args .file .now) (c .before .before .before .before .before .before .before .before .before .before .before .before .args .number) _ exit _ _ (sym (c .before .before .before .before .before .before .before .before .before .open-schema .ensures .answers) ∙ ap (λ (r : Opened). toldOpened r exit) (c .before .before .before .before .before .before .before .start .given .1)) (c .before .before .before .before .codes-of .ensures) (c .before .before .flags-of .ensures) (c .maxima-of .ensures)
+    let a = c .before .before .before .before .before .before .before .before .args in
+    let exit : List ℕ = c .before .before .before .before .before .open-schema .last .1 .1 .0 in
+    columned-found (a .file .now) (a .number) _ _ (sym (c .before .before .before .before .before .open-schema .ensures .answers) ∙ ap (λ (r : Opened). toldOpened r exit) (c .before .before .before .start .given .1)) (c .columns-in .ensures)
 
 pub columns-of-spec : {M : Type 1} → statement M
 columns-of-spec =
@@ -36,8 +31,6 @@ columns-of-spec =
     (λ c κs. search needs)
     (λ c. search needs)
     (λ c. search needs)
-    codes-of-requires
-    flags-of-requires
-    maxima-of-requires
+    columns-in-requires
     returns
     returns-2)

@@ -1,6 +1,5 @@
 -- The flags are one byte, and the column is in one number.
 -- Assumes nothing.
-use Prim.Native.Nat.{ℕ}
 use native.Mathlib.Omega.{arith}
 use lib.ListN.{getD}
 use Rattle.column.specs.Packed.{packedColumn}

@@ -1,6 +1,6 @@
 -- The flags are one byte, the maximum is of one byte or two, and the column is in one number.
 -- Assumes nothing.
-use Prim.Native.Nat.{ℕ, _+_, _-_, _*_}
+use Prim.Native.Nat.{_+_, _-_, _*_}
 use native.Mathlib.Omega.{arith}
 use lib.ListN.{getD}
 use Rattle.column.specs.Packed.{packedColumn}
