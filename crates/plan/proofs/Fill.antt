@@ -1,13 +1,13 @@
 -- A plan that is filled along the columns.
 -- Assumes nothing.
-use Prim.Native.Nat.{ℕ, suc, _+_, _*_, _-_, _/_, _%_, _^_, _≤_, _<_}
+use Prim.Native.Nat.{ℕ, _+_, _*_, _-_, _/_, _%_, _^_, _≤_, _<_}
 use mathlib.Core.List.{List, [], _∷_, _++_, map, append-nil, append-assoc}
 use mathlib.Core.Bool.{Bool, true, false, true≢false}
 use mathlib.Core.Path.{_≡_, refl, sym, ap, _∙_}
 use native.Mathlib.Nat.{add-zero}
 use native.Mathlib.Numerals.{add-one}
 use native.Mathlib.Omega.{arith}
-use lib.ListN.{length, getD, set, drop, replicate, length-append, drop-of-length-le}
+use lib.ListN.{length, set, drop, replicate, length-append, drop-of-length-le}
 use lib.Seq.{drop-cons}
 use lib.Pow.{pow-add, shl-shr}
 use lib.Dec.{eqb}
@@ -21,11 +21,10 @@ use Rattle.column.proofs.Stops.{width-few, stop-chapter, no-stop}
 use Rattle.row.specs.Presence.{noColumn, one, presenceBytes, marks}
 use Rattle.row.specs.Leaps.{stopsFrom}
 use Rattle.row.proofs.Arrays.{length-from, column-from}
-use Rattle.plan.specs.declared.plan.Plan.{Plan}
 use Rattle.plan.specs.Plans.{gapPast, numbersFrom, rowStops, firstStop, chapterMask, planOf}
 use Rattle.plan.specs.Packed.{packed, counted, laid}
 use Rattle.plan.proofs.Packed.{set-column, set-stop, set-counts}
-use Rattle.plan.proofs.Made.{one-few, past-few, map-few, mask-few}
+use Rattle.plan.proofs.Made.{one-few, map-few, mask-few}
 
 -- The first i columns are in a plan's numbers: what is written, and what is left to do.
 pub record Filling (cs : List Column) (numbers : List ℕ) (gap bit stops first mask i : ℕ) : Type 0 where

@@ -19,14 +19,13 @@ use Rattle.column.specs.Columns.{width, isChapter, isNullable, isStop}
 use Rattle.column.specs.Packed.{unpackedColumn}
 use Rattle.column.specs.Stops.{Stop, stopOf, stopWord, stopIn}
 use Rattle.column.proofs.Stops.{width-few}
+use Rattle.column.proofs.StopLaws.{stop-in, stop-fits}
 use Rattle.row.specs.Presence.{noColumn, one, nullables, presenceBytes, Mark, mark, noMark, marks, bitOf, markOf, chapterPresent, clear}
 use Rattle.row.specs.Leaps.{stopsFrom, tailFrom}
 use Rattle.row.proofs.Laws.{length-marks, mark-at, bit-few}
-use Rattle.plan.specs.declared.plan.Plan.{Plan}
 use Rattle.plan.specs.Plans.{gapPast, numbersFrom, rowStops, firstStop, chapterMask, planOf, Kept, plannedWord, plannedColumn, plannedMark, plannedGap, plannedCount, plannedMap, plannedChapters, plannedStop, plannedFirst, startsBefore, stopsGone, stopsTo, unsetFrom, unset}
 use Rattle.plan.specs.Packed.{packed, gapIn, bitIn, beforeIn, widthIn, counted, countIn, firstIn, tabled}
 use Rattle.plan.proofs.Packed.{packed-column, packed-gap, packed-bit, packed-before, packed-width, counted-count, counted-first, laid-column, laid-stop, laid-last}
-use Rattle.column.proofs.StopLaws.{stop-in, stop-fits}
 
 -- the stops among marks, with this gap in front
 abbrev stops : ℕ → List Mark → List Stop
@@ -59,7 +58,7 @@ pub one-few : (t : Bool) → one t ≤ 1
 one-few true = omega arith
 one-few false = omega arith
 
-pub past-few : (c : Column) (gap : ℕ) → gapPast c gap ≤ gap + 16
+past-few : (c : Column) (gap : ℕ) → gapPast c gap ≤ gap + 16
 past-few c gap = go (isStop c)
   where
     go : (t : Bool) → pick t 0 (gap + width c) ≤ gap + 16
@@ -334,7 +333,7 @@ module _ (cs : List Column) (kept : Kept cs) where
     pub gap-planned : plannedGap (planOf cs) k ≡ pick (isChapter (getD cs k noColumn)) 0 (tailFrom isStop (presenceBytes cs) (take k (marks 0 cs)))
     gap-planned = part gapIn (packed-gap (getD cs k noColumn) (kept .code k) (kept .flags k) (kept .maximum k) gap (bitOf cs k) before)
 
-    pub bit-planned : bitIn (plannedWord (planOf cs) k) ≡ bitOf cs k
+    bit-planned : bitIn (plannedWord (planOf cs) k) ≡ bitOf cs k
     bit-planned = part bitIn (packed-bit (getD cs k noColumn) (kept .code k) (kept .flags k) (kept .maximum k) gap (bitOf cs k) before)
 
     before-planned : beforeIn (plannedWord (planOf cs) k) ≡ before

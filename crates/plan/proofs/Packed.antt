@@ -1,6 +1,6 @@
 -- The numbers of a plan: the parts of each, and where they stand.
 -- Assumes nothing.
-use Prim.Native.Nat.{ℕ, zero, suc, _+_, _*_, _<_, _≤_}
+use Prim.Native.Nat.{ℕ, zero, suc, _+_, _*_, _<_}
 use mathlib.Core.List.{List, [], _∷_, _++_}
 use mathlib.Core.Path.{_≡_, refl, sym, ap, _∙_}
 use native.Mathlib.Omega.{arith}
@@ -17,7 +17,7 @@ use Rattle.column.proofs.StopLaws.{column-in}
 -- The parts of a column's number.
 
 module _ (c : Column) (hc : c .code < 256) (hf : c .flags < 256) (hm : c .maximum < 65536) where
-  pub packed-small : packedColumn c < 4294967296
+  packed-small : packedColumn c < 4294967296
   unfolding packedColumn
   packed-small = omega arith
 
