@@ -2,16 +2,17 @@
 -- Assumes nothing.
 use mathlib.Core.Path.{refl}
 use Rattle.wire.specs.Bits.{mapBytes}
-use Rattle.column.specs.Types.{types, kindIn, kindOf}
+use Rattle.column.specs.Layout.{padded}
 use Rattle.row.specs.Presence.{nullables, presenceBytes, marks}
-use Rattle.plan.specs.Packed.{packed, listed, tabled, laid}
-use Rattle.plan.specs.Plans.{gapsFrom, stopsFrom, stopsBefore, chapterBits, planOf}
+use Rattle.row.specs.Leaps.{stopsFrom}
+use Rattle.plan.specs.Packed.{counted, laid}
+use Rattle.plan.specs.Plans.{numbersFrom, firstStop, chapterMask, planOf}
 use borrow.Author.Needs.{needs}
 use Rattle.adtg.proofs.plans.blank_plan.Statement.{statement}
 use Rattle.adtg.proofs.plans.blank_plan.Tie as tie
 
 returns : tie.Need-returns
-unfolding planOf laid tabled packed listed presenceBytes mapBytes nullables marks gapsFrom stopsFrom stopsBefore chapterBits kindOf kindIn types
+unfolding planOf laid padded counted presenceBytes mapBytes nullables marks numbersFrom stopsFrom firstStop chapterMask
 returns c = refl
 
 pub blank-plan-spec : {M : Type 1} → statement M
