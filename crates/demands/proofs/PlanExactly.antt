@@ -13,27 +13,29 @@ use Rattle.wire.specs.declared.error.Input.{Input}
 use Rattle.wire.specs.declared.error.Input.the-variants as input
 use Rattle.wire.specs.Read.{Bytes, Read, ok, bad, _>>=_, pick, check, about, sized, whole, limit}
 use Rattle.wire.specs.Bits.{bitSet}
-use Rattle.wire.proofs.Pieces.{bad-ok, bind-ok}
+use Rattle.wire.specs.Maps.{topBit}
+use Rattle.wire.proofs.Pieces.{bad-ok}
 use Rattle.column.specs.declared.column.Column.{Column}
 use Rattle.column.specs.declared.field.Field.{Field}
-use Rattle.column.specs.Types.{variableKind, chapterKind}
-use Rattle.column.specs.Columns.{isVariable, isChapter, isNullable, isStop}
-use Rattle.column.specs.Fields.{bytesAt, variableAt, fieldAt}
-use Rattle.column.proofs.Laws.{field-variable, bytes-short, bytes-fit}
-use Rattle.column.proofs.Stops.{stop-variable}
-use Rattle.row.specs.Presence.{Mark, one, present}
-use Rattle.row.specs.Rows.{Place, place, past, reached, Answer, field, null, chapter}
+use Rattle.column.specs.Columns.{isVariable, isChapter, isNullable}
+use Rattle.column.specs.Fields.{bytesAt, variableAt}
+use Rattle.column.specs.Packed.{unpackedColumn}
+use Rattle.column.specs.Stops.{Stop, there, lengthAt, spanError}
+use Rattle.column.proofs.Laws.{rule-refused, field-variable, bytes-short, bytes-fit}
+use Rattle.row.specs.Presence.{Mark, present}
+use Rattle.row.specs.Rows.{Place, place, reached, Answer, field, null, chapter}
+use Rattle.row.specs.Leaps.{passed, leaps}
+use Rattle.row.proofs.Leap.{error-long, error-plain, passed-none, passed-over, passed-bad}
 use Rattle.plan.specs.declared.plan.Plan.{Plan}
-use Rattle.plan.specs.Packed.{unpacked, gapIn, bitIn, widthIn}
-use Rattle.plan.specs.Plans.{plannedWord, plannedColumn, plannedMark, plannedGap, plannedCount, plannedMap, plannedMarked, stopsTo, fieldIn, passedVariable, passed, visit, visits, jumped, landed, unset, plannedKnown, plannedOpen, plannedAnswer, plannedLookUp, plannedRow, FixedPlace, noStops, fixedPlace}
+use Rattle.plan.specs.Packed.{widthIn}
+use Rattle.plan.specs.Plans.{plannedWord, plannedColumn, plannedMark, plannedGap, plannedCount, plannedMap, plannedChapters, fieldIn, jumped, landed, unsetFrom, plannedKnown, plannedOpen, plannedAnswer, plannedLookUp, plannedRow, fixedPlace}
 use Rattle.plan.specs.Handles.{openedRow}
 use Rattle.adtg.specs.Plans.{blank, planBeside, Checked}
 use Rattle.grammar.specs.Grammar.{Row}
 use Rattle.batch.specs.Spans.{ownerOf, startIn, isRow, Span, spanOf, moved, spanIn, spansIn, rowsOf, spansBy}
-use Rattle.plan.proofs.Laws.{variable-absent, variable-past, variable-bad, passed-variable, passed-fixed, visit-behind, visit-plain, visit-over}
 use Rattle.demands.specs.Checks.{Refusals, Silent, Never, Nothing, _then_, first, second, Exactly, Faults, Of, of, Lent, lent, Sizes, over, within, Short, short, Missing, missing, NoRoom, no-room}
 use Rattle.demands.specs.RowFaults.{FieldFault}
-use Rattle.demands.specs.PlanFaults.{PlanFault, differs, BitFault, this-bit, later-bit, PlanOpenFaults, StopFault, in-stop, behind-stop, HeldFault, held-variable, held-width, JumpFault, on-the-way, in-column, PlannedFaults, PlannedRowFaults, BatchFault, in-row, of-other, behind-row, foundSpans}
+use Rattle.demands.specs.PlanFaults.{PlanFault, differs, BitFault, this-bit, later-bit, PlanOpenFaults, StopFault, in-stop, behind-stop, HeldFault, held-variable, held-width, JumpFault, on-the-way, in-column, wayTo, PlannedFaults, PlannedRowFaults, BatchFault, in-row, of-other, behind-row, foundSpans}
 use Rattle.demands.proofs.RowExactly.{Foreign, exactly-field, field-codes}
 use Rattle.demands.proofs.Exactly.{exactly-ways, same-error, moved-error, ok-silent, exactly-ok, exactly-then, exactly-last, exactly-alike, exactly-about, about-then, about-last, exactly-check, exactly-whole, exactly-missing, exactly-room, exactly-size, exactly-sized, single-fault, never-then, never-of, never-short, never-missing}
 
@@ -43,31 +45,43 @@ unfolding fixedPlace plannedKnown
 fixed-place-exactly p k = exactly-last _ _ (exactly-about input.Column _ (exactly-missing (plannedCount p) k))
 
 -- The bits of chapters.
-exactly-unset : (row : Bytes) (bs : List ℕ) → Exactly (unset row bs) (Of input.Single (BitFault row bs))
-unfolding unset check
-exactly-unset row [] = exactly-ways (λ c o i e. absurd (bad-ok (sym e))) (λ c o p. absurd (none p refl))
+exactly-unset : (row : Bytes) (mask n b : ℕ) → Exactly (unsetFrom row mask n b) (Of input.Single (BitFault row mask n b))
+unfolding unsetFrom check
+exactly-unset row mask zero b = exactly-ways (λ c o i e. absurd (bad-ok (sym e))) (λ c o p. absurd (none p refl))
   where
-    none : {bs : List ℕ} {c o : ℕ} → BitFault row bs c o → bs ≡ [] → ⊥
-    none (this-bit h) e = let z : _≡_ {A = ℕ} 0 1 = cc in omega arith
-    none (later-bit h p) e = let z : _≡_ {A = ℕ} 0 1 = cc in omega arith
-exactly-unset row (b ∷ bs) = exactly-ways (λ c o i e. there (bitSet row b) refl e (exactly-unset row bs c o i .0)) (λ c o p. back p (exactly-unset row bs))
+    none : {n b c o : ℕ} → BitFault row mask n b c o → n ≡ 0 → ⊥
+    none (this-bit m h) e = omega arith
+    none (later-bit h p) e = omega arith
+exactly-unset row mask (suc n) b =
+    exactly-ways (λ c o i e. there (pick (eqb (topBit mask b) 1) (bitSet row b) false) refl e (exactly-unset row mask n (suc b) c o i .0)) (λ c o p. back p (exactly-unset row mask n (suc b)))
   where
+    told : (m s : Bool) → pick m s false ≡ true → (m ≡ true) × (s ≡ true)
+    told true s h = (refl, h)
+    told false s h = absurd (true≢false (sym h))
+
     there :
-        (t : Bool) → bitSet row b ≡ t → {c o : ℕ} {i : Input} → (check (not t) 12 (b / 8) >>= λ _. unset row bs) ≡ bad c o i →
-        (unset row bs ≡ bad c o i → Of input.Single (BitFault row bs) c o i) → BitFault row (b ∷ bs) c o × (i ≡ input.Single)
+        (t : Bool) → pick (eqb (topBit mask b) 1) (bitSet row b) false ≡ t → {c o : ℕ} {i : Input} → (check (not t) 12 (b / 8) >>= λ _. unsetFrom row mask n (suc b)) ≡ bad c o i →
+        (unsetFrom row mask n (suc b) ≡ bad c o i → Of input.Single (BitFault row mask n (suc b)) c o i) → BitFault row mask (suc n) b c o × (i ≡ input.Single)
     there true t {c} {o} {i} e rest =
+        let (m, h) = told (eqb (topBit mask b) 1) (bitSet row b) t in
         let x : 12 ≡ c = cc in
         let y : b / 8 ≡ o = cc in
         let z : i ≡ input.Single = cc in
-        (rw (← x, ← y) (this-bit t), z)
+        (rw (← x, ← y) (this-bit (eqb-true _ _ m) h), z)
     there false t {c} {o} {i} e rest = by (rest e)
       where
-        by : {i : Input} → Of input.Single (BitFault row bs) c o i → BitFault row (b ∷ bs) c o × (i ≡ input.Single)
-        by (of p) = (later-bit t p, refl)
+        by : {i : Input} → Of input.Single (BitFault row mask n (suc b)) c o i → BitFault row mask (suc n) b c o × (i ≡ input.Single)
+        by (of p) = (later-bit {b = b} (λ (m : topBit mask b ≡ 1). rw (eq-eqb (topBit mask b) 1 m) at t) p, refl)
 
-    back : {c o : ℕ} → BitFault row (b ∷ bs) c o → Exactly (unset row bs) (Of input.Single (BitFault row bs)) → (check (not (bitSet row b)) 12 (b / 8) >>= λ _. unset row bs) ≡ bad c o input.Single
-    back (this-bit h) rest = rw h refl
-    back (later-bit h p) rest = rw h (rest _ _ input.Single .1 (of p))
+    quiet : (m : Bool) → eqb (topBit mask b) 1 ≡ m → (topBit mask b ≡ 1 → bitSet row b ≡ false) → pick m (bitSet row b) false ≡ false
+    quiet true m h = h (eqb-true _ _ m)
+    quiet false m h = refl
+
+    back :
+        {c o : ℕ} → BitFault row mask (suc n) b c o → Exactly (unsetFrom row mask n (suc b)) (Of input.Single (BitFault row mask n (suc b))) →
+        (check (not (pick (eqb (topBit mask b) 1) (bitSet row b) false)) 12 (b / 8) >>= λ _. unsetFrom row mask n (suc b)) ≡ bad c o input.Single
+    back (this-bit m h) rest = rw (eq-eqb _ _ m, h) refl
+    back (later-bit h p) rest = rw (quiet (eqb (topBit mask b) 1) refl h) (rest _ _ input.Single .1 (of p))
 
 -- Opening a row.
 module _ (p : Plan) (row : Bytes) where
@@ -75,7 +89,7 @@ module _ (p : Plan) (row : Bytes) where
   unfolding plannedOpen
   exactly-planned-open =
       about-then input.Row _ _ (exactly-about input.Row _ (exactly-whole row 0 (plannedMap p)))
-      (λ s _. about-last input.Row _ (λ (u : Unit {0}). s) (exactly-about input.Row _ (exactly-unset row (plannedMarked p))))
+      (λ s _. about-last input.Row _ (λ (u : Unit {0}). s) (exactly-about input.Row _ (exactly-unset row (plannedChapters p) 64 0)))
 
   pub open-row-exactly : Exactly (openedRow p row) (Sizes (lent input.Row row ∷ []) then PlanOpenFaults p row)
   unfolding openedRow
@@ -92,6 +106,14 @@ present-chapter row m t = go (isChapter (m .column)) t
     go true e = absurd (true≢false (sym e))
     go false e = refl
 
+-- a length that is not allowed is refused with 14
+span-refused : (t : Stop) (s : Bytes) (at : ℕ) → eqb (spanError t s at) 0 ≡ false → spanError t s at ≡ 14
+span-refused t s at e = go (t .variable) refl
+  where
+    go : (v : Bool) → t .variable ≡ v → spanError t s at ≡ 14
+    go true v = error-long t s at v ∙ rule-refused (t .most) (t .even) (lengthAt t s at) (rw (error-long t s at v) at e)
+    go false v = absurd (eqb-false _ _ e (error-plain t s at v))
+
 module _ (p : Plan) (row : Bytes) where
   -- a field of variable length
   variable-there : (c : Column) (at : ℕ) → isVariable c ≡ true → {code offset : ℕ} {name : Input} → variableAt c row at ≡ bad code offset name → FieldFault c row at code offset × (name ≡ input.Single)
@@ -101,62 +123,43 @@ module _ (p : Plan) (row : Bytes) where
   variable-back c at v f = sym (field-variable c row at v) ∙ exactly-field c row at _ _ input.Single .1 (of f)
 
   module _ (k : ℕ) where
-    stop-there : {i : ℕ} {w : Place} {code offset : ℕ} {name : Input} → visit p row k i w ≡ bad code offset name → (is : List ℕ) → StopFault p row k (i ∷ is) w code offset × (name ≡ input.Single)
-    stop-there {i} {w} {code} {offset} {name} e is = by-number (ltb i k) refl
+    leaps-there :
+        (ts : List Stop) (w : Place) {code offset : ℕ} {name : Input} → leaps (bitSet row) row ts w ≡ bad code offset name →
+        StopFault row ts w code offset × (name ≡ input.Single)
+    unfolding leaps
+    leaps-there [] w e = absurd (bad-ok (sym e))
+    leaps-there (t ∷ ts) w {code} {offset} {name} e = by (there (bitSet row) t) refl (eqb (spanError t row (w .at + t .gap)) 0) refl (λ v q. leaps-there ts v q)
       where
-        by-presence : i < k → isVariable (plannedColumn p i) ≡ true → (t : Bool) → present row (plannedMark p i) ≡ t →
-            passedVariable (plannedColumn p i) (bitIn (plannedWord p i)) row (place (w .at + plannedGap p i) (w .prefixes)) ≡ bad code offset name →
-            StopFault p row k (i ∷ is) w code offset × (name ≡ input.Single)
-        by-presence l v false t e = absurd (bad-ok (sym e ∙ variable-absent (plannedColumn p i) (bitIn (plannedWord p i)) row (place (w .at + plannedGap p i) (w .prefixes)) t))
-        by-presence l v true t e = by (variableAt (plannedColumn p i) row (w .at + plannedGap p i)) refl
-          where
-            by : (r : Read Field) → variableAt (plannedColumn p i) row (w .at + plannedGap p i) ≡ r → StopFault p row k (i ∷ is) w code offset × (name ≡ input.Single)
-            by (ok f) q =
-                absurd (bad-ok (sym e ∙ variable-past (plannedColumn p i) (bitIn (plannedWord p i)) row (place (w .at + plannedGap p i) (w .prefixes)) t q))
-            by (bad c o j) q =
-                let z : _≡_ {A = Read Place} (bad c o j) (bad code offset name) = sym (variable-bad (plannedColumn p i) (bitIn (plannedWord p i)) row (place (w .at + plannedGap p i) (w .prefixes)) t q) ∙ e in
-                let (f, n) = variable-there (plannedColumn p i) (w .at + plannedGap p i) v (q ∙ same-error z) in
-                (in-stop l v t f, n)
+        Rest : Type 0
+        Rest = (v : Place) → leaps (bitSet row) row ts v ≡ bad code offset name → StopFault row ts v code offset × (name ≡ input.Single)
 
-        by-type : i < k → isStop (plannedColumn p i) ≡ true → (t : Bool) → isVariable (plannedColumn p i) ≡ t → StopFault p row k (i ∷ is) w code offset × (name ≡ input.Single)
-        by-type l s true v = by-presence l v (present row (plannedMark p i)) refl (sym (passed-variable (plannedWord p i) row (place (w .at + plannedGap p i) (w .prefixes)) v) ∙ sym (visit-over p row k i w l s refl) ∙ e)
-        by-type l s false v = absurd (bad-ok (sym e ∙ visit-over p row k i w l s refl ∙ passed-fixed (plannedWord p i) row (place (w .at + plannedGap p i) (w .prefixes)) v))
+        past : (v : Place) → passed (bitSet row) row t w ≡ ok v → Rest → StopFault row (t ∷ ts) w code offset × (name ≡ input.Single)
+        past v q rest = let (f, z) = rest v (rw q at e) in (behind-stop q f, z)
 
-        by-stop : i < k → (t : Bool) → isStop (plannedColumn p i) ≡ t → StopFault p row k (i ∷ is) w code offset × (name ≡ input.Single)
-        by-stop l true s = by-type l s (isVariable (plannedColumn p i)) refl
-        by-stop l false s = absurd (bad-ok (sym e ∙ visit-plain p row k i w l s))
+        by : (h : Bool) → there (bitSet row) t ≡ h → (u : Bool) → eqb (spanError t row (w .at + t .gap)) 0 ≡ u → Rest → StopFault row (t ∷ ts) w code offset × (name ≡ input.Single)
+        by false h u g rest = past _ (passed-none (bitSet row) row t w h) rest
+        by true h true g rest = past _ (passed-over (bitSet row) row t w h (eqb-true _ _ g)) rest
+        by true h false g rest =
+            let m : spanError t row (w .at + t .gap) ≡ 14 = span-refused t row (w .at + t .gap) g in
+            let q : _≡_ {A = Read Place} (bad 14 (w .at + t .gap) input.Single) (bad code offset name) = rw (passed-bad (bitSet row) row t w h (eqb-false _ _ g), m) at e in
+            let x : 14 ≡ code = cc in
+            let y : w .at + t .gap ≡ offset = cc in
+            let z : name ≡ input.Single = cc in
+            (rw (← x, ← y) (in-stop h m), z)
 
-        by-number : (t : Bool) → ltb i k ≡ t → StopFault p row k (i ∷ is) w code offset × (name ≡ input.Single)
-        by-number true t = by-stop (ltb-true _ _ t) (isStop (plannedColumn p i)) refl
-        by-number false t = absurd (bad-ok (sym e ∙ visit-behind p row k i w (ltb-false _ _ t)))
-
-    visits-there : (is : List ℕ) (w : Place) {code offset : ℕ} {name : Input} → visits p row k is w ≡ bad code offset name → StopFault p row k is w code offset × (name ≡ input.Single)
-    unfolding visits
-    visits-there [] w e = absurd (bad-ok (sym e))
-    visits-there (i ∷ is) w {code} {offset} {name} e = by (visit p row k i w) refl e (λ v q. visits-there is v q)
-      where
-        by : (r : Read Place) → visit p row k i w ≡ r → (r >>= λ v. visits p row k is v) ≡ bad code offset name →
-            ((v : Place) → visits p row k is v ≡ bad code offset name → StopFault p row k is v code offset × (name ≡ input.Single)) →
-            StopFault p row k (i ∷ is) w code offset × (name ≡ input.Single)
-        by (ok v) q e rest = let (f, z) = rest v e in (behind-stop q f, z)
-        by (bad c o j) q e rest = stop-there (q ∙ e) is
-
-    visits-back : (is : List ℕ) (w : Place) {code offset : ℕ} → StopFault p row k is w code offset → visits p row k is w ≡ bad code offset input.Single
-    unfolding visits
-    visits-back is w (in-stop {i = i} l v t f) =
-        rw (visit-over p row k i w l (stop-variable (plannedColumn p i) v) refl ∙ passed-variable (plannedWord p i) row (place (w .at + plannedGap p i) (w .prefixes)) v
-        ∙ variable-bad (plannedColumn p i) (bitIn (plannedWord p i)) row (place (w .at + plannedGap p i) (w .prefixes)) t (variable-back (plannedColumn p i) (w .at + plannedGap p i) v f))
-        refl
-    visits-back is w (behind-stop {is = js} {v = v} q f) = rw q (visits-back js v f)
+    leaps-back : (ts : List Stop) (w : Place) {code offset : ℕ} → StopFault row ts w code offset → leaps (bitSet row) row ts w ≡ bad code offset input.Single
+    unfolding leaps
+    leaps-back ts w (in-stop {t = t} h m) = rw (passed-bad (bitSet row) row t w h (λ z. omega (arith, z, m)), m) refl
+    leaps-back ts w (behind-stop {ts = us} {v = v} q f) = rw q (leaps-back us v f)
 
     -- the field of the column
     held-there : (n at : ℕ) {code offset : ℕ} {name : Input} → fieldIn n row at ≡ bad code offset name → HeldFault n row at code offset × (name ≡ input.Single)
     unfolding fieldIn
-    held-there n at {code} {offset} {name} e = by (isVariable (unpacked n)) refl e
+    held-there n at {code} {offset} {name} e = by (isVariable (unpackedColumn n)) refl e
       where
-        by : (t : Bool) → isVariable (unpacked n) ≡ t → pick t (variableAt (unpacked n) row at) (bytesAt row at (widthIn n) 0) ≡ bad code offset name →
+        by : (t : Bool) → isVariable (unpackedColumn n) ≡ t → pick t (variableAt (unpackedColumn n) row at) (bytesAt row at (widthIn n) 0) ≡ bad code offset name →
             HeldFault n row at code offset × (name ≡ input.Single)
-        by true v e = let (f, z) = variable-there (unpacked n) at v e in (held-variable v f, z)
+        by true v e = let (f, z) = variable-there (unpackedColumn n) at v e in (held-variable v f, z)
         by false v e = by-width (leb (at + widthIn n) (length row)) refl
           where
             by-width : (t : Bool) → leb (at + widthIn n) (length row) ≡ t → HeldFault n row at code offset × (name ≡ input.Single)
@@ -171,7 +174,7 @@ module _ (p : Plan) (row : Bytes) where
 
     held-back : (n at : ℕ) {code offset : ℕ} → HeldFault n row at code offset → fieldIn n row at ≡ bad code offset input.Single
     unfolding fieldIn
-    held-back n at (held-variable v f) = rw v (variable-back (unpacked n) at v f)
+    held-back n at (held-variable v f) = rw v (variable-back (unpackedColumn n) at v f)
     held-back n at (held-width v l) = rw v (bytes-short row at (widthIn n) 0 l)
 
     -- column k of a row that opens
@@ -181,30 +184,30 @@ module _ (p : Plan) (row : Bytes) where
       where
         way : Read Answer
         way =
-            (visits p row k (stopsTo p k) (place 0 0) >>= λ w. ok (place (w .at + plannedGap p k) (w .prefixes)))
+            (leaps (bitSet row) row (wayTo p k) (place 0 0) >>= λ w. ok (place (w .at + plannedGap p k) (w .prefixes)))
             >>= λ w. (fieldIn (plannedWord p k) row (w .at) >>= λ f. ok (reached w f)) >>= λ f. ok (field f)
 
-        by-field : {c o : ℕ} {i : Input} → present row (plannedMark p k) ≡ true → (w : Place) → visits p row k (stopsTo p k) (place 0 0) ≡ ok w → (r : Read Field) →
+        by-field : {c o : ℕ} {i : Input} → present row (plannedMark p k) ≡ true → (w : Place) → leaps (bitSet row) row (wayTo p k) (place 0 0) ≡ ok w → (r : Read Field) →
             fieldIn (plannedWord p k) row (w .at + plannedGap p k) ≡ r →
             ((r >>= λ f. ok (reached (place (w .at + plannedGap p k) (w .prefixes)) f)) >>= λ f. ok (field f)) ≡ bad c o i → JumpFault p row k c o × (i ≡ input.Single)
         by-field t w q (ok f) g e = absurd (bad-ok (sym e))
         by-field t w q (bad d u j) g e = let (f, z) = held-there (plannedWord p k) (w .at + plannedGap p k) (g ∙ same-error e) in (in-column t q f, z)
 
-        by-way : {c o : ℕ} {i : Input} → present row (plannedMark p k) ≡ true → (r : Read Place) → visits p row k (stopsTo p k) (place 0 0) ≡ r →
+        by-way : {c o : ℕ} {i : Input} → present row (plannedMark p k) ≡ true → (r : Read Place) → leaps (bitSet row) row (wayTo p k) (place 0 0) ≡ r →
             ((r >>= λ w. ok (place (w .at + plannedGap p k) (w .prefixes)))
             >>= λ w. (fieldIn (plannedWord p k) row (w .at) >>= λ f. ok (reached w f)) >>= λ f. ok (field f))
             ≡ bad c o i →
             JumpFault p row k c o × (i ≡ input.Single)
         by-way t (ok w) q e = by-field t w q (fieldIn (plannedWord p k) row (w .at + plannedGap p k)) refl e
-        by-way t (bad d u j) q e = let (f, z) = visits-there (stopsTo p k) (place 0 0) (q ∙ same-error e) in (on-the-way t f, z)
+        by-way t (bad d u j) q e = let (f, z) = leaps-there (wayTo p k) (place 0 0) (q ∙ same-error e) in (on-the-way t f, z)
 
         there : {c o : ℕ} {i : Input} → (t u : Bool) → present row (plannedMark p k) ≡ u → pick t (ok chapter) (pick u way (ok null)) ≡ bad c o i → JumpFault p row k c o × (i ≡ input.Single)
         there true u q e = absurd (bad-ok (sym e))
         there false false q e = absurd (bad-ok (sym e))
-        there false true q e = by-way q (visits p row k (stopsTo p k) (place 0 0)) refl e
+        there false true q e = by-way q (leaps (bitSet row) row (wayTo p k) (place 0 0)) refl e
 
         back : {c o : ℕ} → JumpFault p row k c o → pick (isChapter (plannedColumn p k)) (ok chapter) (pick (present row (plannedMark p k)) way (ok null)) ≡ bad c o input.Single
-        back (on-the-way t f) = rw (present-chapter row (plannedMark p k) t, t, visits-back (stopsTo p k) (place 0 0) f) refl
+        back (on-the-way t f) = rw (present-chapter row (plannedMark p k) t, t, leaps-back (wayTo p k) (place 0 0) f) refl
         back (in-column {w = w} t q f) = rw (present-chapter row (plannedMark p k) t, t, q, held-back (plannedWord p k) (w .at + plannedGap p k) f) refl
 
     -- A look-up through any plan.
@@ -287,8 +290,8 @@ module _ (look : Bytes → Read Answer) (refuses : Bytes → Refusals) (exact : 
 
 -- Codes that are never given.
 
-bit-codes : {row : Bytes} {bs : List ℕ} {code offset : ℕ} → BitFault row bs code offset → code ≡ 12
-bit-codes (this-bit h) = refl
+bit-codes : {row : Bytes} {mask m b code offset : ℕ} → BitFault row mask m b code offset → code ≡ 12
+bit-codes (this-bit m h) = refl
 bit-codes (later-bit h f) = bit-codes f
 
 module _ {n : ℕ} (f : Foreign n) (p : Plan) (row : Bytes) where
@@ -296,12 +299,12 @@ module _ {n : ℕ} (f : Foreign n) (p : Plan) (row : Bytes) where
   never-planned-open = never-then (never-short (f .no-end)) (never-of (λ _ h. f .no-chapter (bit-codes h)))
 
   module _ (k : ℕ) where
-    stop-codes : {is : List ℕ} {w : Place} {offset : ℕ} → StopFault p row k is w n offset → ⊥
-    stop-codes (in-stop _ _ _ h) = field-codes h (f .no-end) (f .no-length)
-    stop-codes (behind-stop _ h) = stop-codes h
+    stop-codes : {ts : List Stop} {w : Place} {code offset : ℕ} → StopFault row ts w code offset → code ≡ n → ⊥
+    stop-codes (in-stop _ _) e = f .no-length (sym e)
+    stop-codes (behind-stop _ h) e = stop-codes h e
 
     jump-codes : {code offset : ℕ} → JumpFault p row k code offset → code ≡ n → ⊥
-    jump-codes (on-the-way _ h) e = stop-codes (rw e at h)
+    jump-codes (on-the-way _ h) e = stop-codes h e
     jump-codes (in-column _ _ (held-variable _ h)) e = field-codes (rw e at h) (f .no-end) (f .no-length)
     jump-codes (in-column _ _ (held-width _ _)) e = f .no-end (sym e)
 

@@ -1,8 +1,8 @@
 -- Promise: what is refused through a plan, of any numbers (document 01, "Looking up a field", and its table of refusals), exactly.
 -- Assumes nothing.
-use Prim.Native.Nat.{ℕ, _+_, _*_, _/_, _<_}
+use Prim.Native.Nat.{ℕ, suc, _+_, _/_, _<_}
 use mathlib.Core.Path.{_≡_}
-use mathlib.Core.List.{List, [], _∷_}
+use mathlib.Core.List.{List, [], _∷_, map}
 use mathlib.Core.Bool.{Bool, true, false}
 use lib.ListN.{length, drop}
 use lib.Dec.{eqb}
@@ -10,12 +10,16 @@ use Rattle.wire.specs.declared.error.Input.{Input}
 use Rattle.wire.specs.declared.error.Input.the-variants as input
 use Rattle.wire.specs.Read.{Bytes, Read, ok, bad}
 use Rattle.wire.specs.Bits.{bitSet}
-use Rattle.column.specs.Columns.{isVariable, isStop}
+use Rattle.wire.specs.Maps.{topBit}
+use Rattle.column.specs.Columns.{isVariable}
+use Rattle.column.specs.Packed.{unpackedColumn}
+use Rattle.column.specs.Stops.{Stop, there, spanError}
 use Rattle.row.specs.Presence.{present}
 use Rattle.row.specs.Rows.{Place, place}
+use Rattle.row.specs.Leaps.{passed, leaps}
 use Rattle.plan.specs.declared.plan.Plan.{Plan}
-use Rattle.plan.specs.Packed.{unpacked, widthIn}
-use Rattle.plan.specs.Plans.{plannedWord, plannedColumn, plannedMark, plannedGap, plannedCount, plannedMap, plannedMarked, stopsTo, visit, visits}
+use Rattle.plan.specs.Packed.{widthIn}
+use Rattle.plan.specs.Plans.{plannedWord, plannedMark, plannedGap, plannedCount, plannedMap, plannedChapters, stopsTo, byBit}
 use Rattle.grammar.specs.Grammar.{Row}
 use Rattle.batch.specs.Spans.{ownerOf, startIn, isRow, Span}
 use Rattle.demands.specs.Checks.{Refusals, Silent, _then_, Of, Lent, lent, Sizes, Short, Missing}
@@ -25,30 +29,35 @@ use Rattle.demands.specs.RowFaults.{FieldFault}
 pub data PlanFault (p made : Plan) : (code offset : ℕ) → Type 0 where
   differs : (p ≡ made → ⊥) → PlanFault p made 17 0
 
--- 12: a bit is set that must not be, at the map byte of the first such
-pub data BitFault (row : Bytes) : List ℕ → (code offset : ℕ) → Type 0 where
-  this-bit : {b : ℕ} {bs : List ℕ} → bitSet row b ≡ true → BitFault row (b ∷ bs) 12 (b / 8)
-  later-bit : {b code offset : ℕ} {bs : List ℕ} → bitSet row b ≡ false → BitFault row bs code offset → BitFault row (b ∷ bs) code offset
+-- 12: one of n bits from b on is set both in the row's map and in a mask, at the map byte of the first such
+pub data BitFault (row : Bytes) (mask : ℕ) : (n b code offset : ℕ) → Type 0 where
+  this-bit : {n b : ℕ} → topBit mask b ≡ 1 → bitSet row b ≡ true → BitFault row mask (suc n) b 12 (b / 8)
+  later-bit : {n b code offset : ℕ} → (topBit mask b ≡ 1 → bitSet row b ≡ false) → BitFault row mask n (suc b) code offset → BitFault row mask (suc n) b code offset
 
--- opening a row: its map is whole (1), none of the chapters' bits that the plan lists is set (12)
+-- opening a row: its map is whole (1), none of the chapters' bits that the plan holds is set (12)
 abbrev pub PlanOpenFaults : Plan → Bytes → Refusals
-PlanOpenFaults p row = Of input.Row (Short row 0 (plannedMap p)) then Of input.Row (BitFault row (plannedMarked p))
+PlanOpenFaults p row = Of input.Row (Short row 0 (plannedMap p)) then Of input.Row (BitFault row (plannedChapters p) 64 0)
 
--- The way to column k over the listed columns: a stop before k that is of variable length and present is read.
-pub data StopFault (p : Plan) (row : Bytes) (k : ℕ) : List ℕ → Place → (code offset : ℕ) → Type 0 where
-  in-stop : {i code offset : ℕ} {is : List ℕ} {w : Place} → i < k → isVariable (plannedColumn p i) ≡ true → present row (plannedMark p i) ≡ true →
-      FieldFault (plannedColumn p i) row (w .at + plannedGap p i) code offset → StopFault p row k (i ∷ is) w code offset
-  behind-stop : {i code offset : ℕ} {is : List ℕ} {w v : Place} → visit p row k i w ≡ ok v → StopFault p row k is v code offset → StopFault p row k (i ∷ is) w code offset
+-- 14: the way over stops: of the first one that the row has with a length that is not allowed, at its prefix. What is missing is missed at the
+-- column's own field.
+pub data StopFault (row : Bytes) : List Stop → Place → (code offset : ℕ) → Type 0 where
+  in-stop : {t : Stop} {ts : List Stop} {w : Place} → there (bitSet row) t ≡ true → spanError t row (w .at + t .gap) ≡ 14 → StopFault row (t ∷ ts) w 14 (w .at + t .gap)
+  behind-stop : {t : Stop} {ts : List Stop} {w v : Place} {code offset : ℕ} → passed (bitSet row) row t w ≡ ok v → StopFault row ts v code offset →
+      StopFault row (t ∷ ts) w code offset
+
+-- the stops on the way to column k
+abbrev pub wayTo : Plan → ℕ → List Stop
+wayTo p k = map byBit (stopsTo p k)
 
 -- The field at `at` of a column that a plan holds as number n: of variable length by its type, else of the width held.
 pub data HeldFault (n : ℕ) (row : Bytes) (at : ℕ) : (code offset : ℕ) → Type 0 where
-  held-variable : {code offset : ℕ} → isVariable (unpacked n) ≡ true → FieldFault (unpacked n) row at code offset → HeldFault n row at code offset
-  held-width : isVariable (unpacked n) ≡ false → length row < at + widthIn n → HeldFault n row at 1 (length row)
+  held-variable : {code offset : ℕ} → isVariable (unpackedColumn n) ≡ true → FieldFault (unpackedColumn n) row at code offset → HeldFault n row at code offset
+  held-width : isVariable (unpackedColumn n) ≡ false → length row < at + widthIn n → HeldFault n row at 1 (length row)
 
 -- column k, where it is present: the way to it, then its field
 pub data JumpFault (p : Plan) (row : Bytes) (k : ℕ) : (code offset : ℕ) → Type 0 where
-  on-the-way : {code offset : ℕ} → present row (plannedMark p k) ≡ true → StopFault p row k (stopsTo p k) (place 0 0) code offset → JumpFault p row k code offset
-  in-column : {code offset : ℕ} {w : Place} → present row (plannedMark p k) ≡ true → visits p row k (stopsTo p k) (place 0 0) ≡ ok w →
+  on-the-way : {code offset : ℕ} → present row (plannedMark p k) ≡ true → StopFault row (wayTo p k) (place 0 0) code offset → JumpFault p row k code offset
+  in-column : {code offset : ℕ} {w : Place} → present row (plannedMark p k) ≡ true → leaps (bitSet row) row (wayTo p k) (place 0 0) ≡ ok w →
       HeldFault (plannedWord p k) row (w .at + plannedGap p k) code offset → JumpFault p row k code offset
 
 -- A look-up through any plan, behind the row's size: the column number (18), the row opens (1, 12), and then the way to the column.
