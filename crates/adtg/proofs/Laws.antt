@@ -14,15 +14,15 @@ use Rattle.wire.proofs.Pieces.{bad-ok, bind-ok, check-ok, about-ok, ok-ok}
 use Rattle.column.specs.declared.column.Column.{Column}
 use Rattle.column.specs.declared.columns.Columns.{Columns}
 use Rattle.column.specs.Layout.{mostColumns, layout, columnsIn}
-use Rattle.schema.specs.declared.file.Found.{Found}
-use Rattle.schema.specs.declared.file.Found.the-variants as found
-use Rattle.schema.specs.declared.file.ColumnsRead.{ColumnsRead}
-use Rattle.schema.specs.Reader.{fileOf}
-use Rattle.schema.specs.Schemas.{Schema, schema, asColumn, schemasOf, readSchemas, schemaAt}
-use Rattle.schema.specs.Questions.{withSchema, Selected, selected, selectedOf, columnsOf, toldFound}
-use Rattle.schema.proofs.SchemaLists.{EntriesRange, SchemaRange, SchemasRange, no-schema, a-schema, schemas-range}
-use Rattle.schema.proofs.Theorem.{file-of-iff}
-use Rattle.schema.proofs.Questions.{with-alone, answer-by}
+use Rattle.questions.specs.declared.file.Found.{Found}
+use Rattle.questions.specs.declared.file.Found.the-variants as found
+use Rattle.questions.specs.declared.file.ColumnsRead.{ColumnsRead}
+use Rattle.tree.specs.Reader.{fileOf}
+use Rattle.tree.specs.Schemas.{Schema, schema, asColumn, schemasOf, readSchemas, schemaAt}
+use Rattle.questions.specs.Questions.{withSchema, Selected, selected, selectedOf, columnsOf, toldFound}
+use Rattle.tree.proofs.SchemaLists.{EntriesRange, SchemaRange, SchemasRange, no-schema, a-schema, schemas-range}
+use Rattle.tree.proofs.Theorem.{file-of-iff}
+use Rattle.questions.proofs.Questions.{with-alone, answer-by}
 use Rattle.row.specs.Rows.{lookUp, lookUpRow}
 use Rattle.row.specs.Updates.{current, currentRow}
 use Rattle.row.proofs.Arrays.{columns-laid}

@@ -10,10 +10,10 @@ use Rattle.wire.specs.Read.{Bytes, AreBytes, Read, ok, bad, _>>=_, about, sized
 use Rattle.wire.proofs.Pieces.{bind-ok, ok-ok}
 use Rattle.column.specs.declared.column.Column.{Column}
 use Rattle.column.specs.Layout.{mostColumns}
-use Rattle.schema.specs.Tree.{mostFlags, mostMaximum}
-use Rattle.schema.specs.Schemas.{Entry, asColumn}
-use Rattle.schema.specs.Questions.{alone, Selected, selectedOf}
-use Rattle.schema.proofs.SchemaLists.{EntryRange, EntriesRange, no-entry, an-entry}
+use Rattle.tree.specs.Tree.{mostFlags, mostMaximum}
+use Rattle.tree.specs.Schemas.{Entry, asColumn}
+use Rattle.questions.specs.Questions.{alone, Selected, selectedOf}
+use Rattle.tree.proofs.SchemaLists.{EntryRange, EntriesRange, no-entry, an-entry}
 use Rattle.row.specs.Presence.{noColumn}
 use Rattle.adtg.specs.InSchema.{both, inSchema}
 use Rattle.plan.specs.declared.plan.Plan.{Plan}

@@ -7,9 +7,9 @@ use Rattle.wire.specs.Read.{Bytes, Read, ok, _>>=_}
 use Rattle.column.specs.declared.column.Column.{Column}
 use Rattle.column.specs.declared.columns.Columns.{Columns}
 use Rattle.column.specs.Layout.{layout}
-use Rattle.schema.specs.declared.file.ColumnsRead.{ColumnsRead}
-use Rattle.schema.specs.Schemas.{asColumn}
-use Rattle.schema.specs.Questions.{withSchema, toldFound}
+use Rattle.questions.specs.declared.file.ColumnsRead.{ColumnsRead}
+use Rattle.tree.specs.Schemas.{asColumn}
+use Rattle.questions.specs.Questions.{withSchema, toldFound}
 
 -- one check after the other: the first error
 abbrev pub both : Read (Unit {0}) → Read (Unit {0}) → Read (Unit {0})

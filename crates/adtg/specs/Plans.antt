@@ -7,9 +7,9 @@ use Rattle.wire.specs.declared.error.Input.{Input}
 use Rattle.wire.specs.declared.error.Input.the-variants as input
 use Rattle.wire.specs.Read.{Bytes, Read, ok, bad, refused}
 use Rattle.column.specs.declared.column.Column.{Column}
-use Rattle.schema.specs.declared.file.Found.{Found}
-use Rattle.schema.specs.declared.file.Found.the-variants as found
-use Rattle.schema.specs.Questions.{alone}
+use Rattle.questions.specs.declared.file.Found.{Found}
+use Rattle.questions.specs.declared.file.Found.the-variants as found
+use Rattle.questions.specs.Questions.{alone}
 use Rattle.plan.specs.declared.plan.Plan.{Plan}
 use Rattle.plan.specs.Plans.{planOf}
 use Rattle.adtg.specs.InSchema.{inSchema}

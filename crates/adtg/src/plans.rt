@@ -7,8 +7,8 @@ use crate::columns_beside;
 use plan::compare::check;
 use plan::make::make;
 use plan::plan::Plan;
-use schema::file::ColumnsRead;
-use schema::file::Found;
+use questions::file::ColumnsRead;
+use questions::file::Found;
 use wire::bytes::Matched;
 
 // A plan that was made; beside an error the blank plan.

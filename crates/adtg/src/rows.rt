@@ -6,8 +6,8 @@ ghost use Rattle.row.specs.Told.{toldLookUp};
 ghost use Rattle.adtg.specs.Rows.{lookUpIn, fieldCountIn, rowEndIn};
 use crate::about;
 use crate::columns_for;
+use questions::file::Found;
 use row::rows::LookUp;
-use schema::file::Found;
 use wire::error::Input;
 use wire::integer::IntRead;
 

@@ -10,10 +10,10 @@ use crate::check_both;
 use crate::check_size;
 use crate::columns_beside;
 use crate::columns_for;
+use questions::file::ColumnsRead;
+use questions::file::Found;
 use row::current::CurrentValue;
 use row::updates::UpdateLookUp;
-use schema::file::ColumnsRead;
-use schema::file::Found;
 use wire::error::Input;
 use wire::integer::IntRead;
 

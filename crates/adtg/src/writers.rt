@@ -4,8 +4,8 @@ ghost use lib.ListN.{length};
 ghost use Rattle.encode.specs.Writers.{WroteAt};
 ghost use Rattle.adtg.specs.Writers.{writeOriginalIn, writeUpdateIn};
 use crate::columns_for;
-use schema::file::ColumnsRead;
-use schema::file::Found;
+use questions::file::ColumnsRead;
+use questions::file::Found;
 use wire::error::Input;
 use wire::output::Written;
 

@@ -5,8 +5,8 @@ use mathlib.Core.Path.{_≡_, sym, ap, _∙_}
 use Rattle.wire.specs.declared.error.Error.{Error}
 use Rattle.wire.specs.Errors.{codeOf, inputNumber}
 use Rattle.wire.specs.Read.{Bytes, Read, ok, refused}
-use Rattle.schema.specs.declared.file.Found.{Found}
-use Rattle.schema.specs.declared.file.Found.the-variants as found
+use Rattle.questions.specs.declared.file.Found.{Found}
+use Rattle.questions.specs.declared.file.Found.the-variants as found
 use Rattle.plan.specs.declared.plan.Plan.{Plan}
 use Rattle.adtg.specs.declared.plans.PlanRead.{PlanRead}
 use Rattle.adtg.specs.Plans.{planIn, toldPlan, planBeside, Planned}

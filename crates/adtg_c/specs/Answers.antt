@@ -6,7 +6,7 @@ use mathlib.Core.List.{List, [], _∷_, _++_}
 use lib.ListN.{length, replicate}
 use Rattle.wire.specs.Errors.{inputNumber}
 use Rattle.wire.specs.Read.{Read, ok, bad}
-use Rattle.schema.specs.Questions.{Counts, Asked}
+use Rattle.questions.specs.Questions.{Counts, Asked}
 use Rattle.header.specs.declared.header.Header.{Header}
 use Rattle.header.specs.declared.options.Options.{Options}
 

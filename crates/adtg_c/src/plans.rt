@@ -21,8 +21,8 @@ use plan::fixed::fixed_place;
 use plan::look::look_lent;
 use plan::look::open_row;
 use plan::plan::Plan;
+use questions::file::Found;
 use row::rows::LookUp;
-use schema::file::Found;
 use wire::bytes::Matched;
 
 // A plan that was made, or the error with the blank plan beside it.

@@ -2,21 +2,21 @@
 ghost use lib.ListN.{length};
 ghost use mathlib.Core.Path.{_≡_};
 ghost use Rattle.wire.specs.Output.{sizeOf, outputAfter};
-ghost use Rattle.schema.specs.Writer.{fileWritten, numbersListed, toldListed};
-ghost use Rattle.schema.specs.Questions.{countsOf, columnCountOf, columnOf, childOf, toldSize};
+ghost use Rattle.numbers.specs.Writer.{fileWritten, numbersListed, toldListed};
+ghost use Rattle.questions.specs.Questions.{countsOf, columnCountOf, columnOf, childOf, toldSize};
 ghost use Rattle.adtg_c.specs.Answers.{Answered, sizeValues, countsValues, columnValues};
 use crate::answer::answer_written;
 use crate::answer::refuse;
-use schema::file::ColumnRead;
-use schema::file::CountsRead;
-use schema::file::SizeRead;
-use schema::file::child_schema;
-use schema::file::column_at;
-use schema::file::column_count;
-use schema::file::count_file;
-use schema::listing::Listed;
-use schema::listing::list_numbers;
-use schema::writer::write_file;
+use numbers::listing::Listed;
+use numbers::listing::list_numbers;
+use numbers::writer::write_file;
+use questions::file::ColumnRead;
+use questions::file::CountsRead;
+use questions::file::SizeRead;
+use questions::file::child_schema;
+use questions::file::column_at;
+use questions::file::column_count;
+use questions::file::count_file;
 
 // How many schemas and columns a schema file has.
 #[no_mangle]

@@ -22,14 +22,14 @@ use Rattle.column.specs.declared.column.Column.{Column}
 use Rattle.column.specs.Types.{types, kindIn, kindOf}
 use Rattle.column.specs.Columns.{isNullable, prefixSize, prefixBytes, greatest, lengthErrorOf, lengthError}
 use Rattle.column.specs.Fields.{allowed, bytesAt, variableAt, fieldAt}
-use Rattle.schema.specs.Numbers.{numberLimit, thirdGroup, secondGroup, numberIn}
-use Rattle.schema.specs.Tree.{member}
-use Rattle.schema.specs.Reader.{readNumber, readRange, readFixed, readVariable, readChapter, readKind, readColumn, readColumns, readSchema, ended, readFile, fileOf}
-use Rattle.schema.specs.Schemas.{Schema, schema, asColumn, ownColumns, nestedSchemas, schemasOf, readSchemas, schemaAt, columnsOf, numberFrom, childNumber}
-use Rattle.schema.proofs.SchemaLists.{SchemasRange, no-schema, a-schema, schemas-range}
-use Rattle.schema.proofs.Theorem.{file-of-iff}
-use Rattle.schema.proofs.Questions.{with-alone}
-use Rattle.schema.specs.Questions.{withSchema}
+use Rattle.tree.specs.Numbers.{numberLimit, thirdGroup, secondGroup, numberIn}
+use Rattle.tree.specs.Tree.{member}
+use Rattle.tree.specs.Reader.{readNumber, readRange, readFixed, readVariable, readChapter, readKind, readColumn, readColumns, readSchema, ended, readFile, fileOf}
+use Rattle.tree.specs.Schemas.{Schema, schema, asColumn, ownColumns, nestedSchemas, schemasOf, readSchemas, schemaAt, columnsOf, numberFrom, childNumber}
+use Rattle.tree.proofs.SchemaLists.{SchemasRange, no-schema, a-schema, schemas-range}
+use Rattle.tree.proofs.Theorem.{file-of-iff}
+use Rattle.questions.proofs.Questions.{with-alone}
+use Rattle.questions.specs.Questions.{withSchema}
 use Rattle.row.specs.Presence.{nullables, presenceBytes, marks, bitOf, present, chapterPresent, clear}
 use Rattle.row.specs.Rows.{Answer, field, null, chapter, step, walk, arrive, opened, fieldOf, columnOf, known, lookUp}
 use Rattle.row.specs.Rows as row

@@ -14,8 +14,8 @@ use Rattle.wire.proofs.Pieces.{bad-ok}
 use Rattle.grammar.specs.Grammar.{Row}
 use Rattle.header.specs.Header.{headerOf, headerWritten}
 use Rattle.header.specs.Options.{optionsOf, optionsWritten}
-use Rattle.schema.specs.Questions.{countsOf, columnCountOf, columnOf, childOf}
-use Rattle.schema.specs.Writer.{coded, numbersListed, fileWritten}
+use Rattle.questions.specs.Questions.{countsOf, columnCountOf, columnOf, childOf}
+use Rattle.numbers.specs.Writer.{coded, numbersListed, fileWritten}
 use Rattle.section.specs.Table.{rowsRead}
 use Rattle.row.specs.Rows.{lookUp, fieldCount, rowEnd}
 use Rattle.row.specs.Updates.{lookUpdate, updateEnd, current}

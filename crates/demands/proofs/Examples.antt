@@ -8,11 +8,11 @@ use Rattle.wire.specs.Integers.{valueOf, intAt, readInt}
 use Rattle.column.specs.Types.{types, kindIn, kindOf}
 use Rattle.column.specs.Columns.{isNullable, prefixSize, greatest, lengthErrorOf, lengthError}
 use Rattle.column.specs.Fields.{allowed, bytesAt, variableAt, fieldAt}
-use Rattle.schema.specs.Numbers.{thirdGroup, secondGroup, numberIn}
-use Rattle.schema.specs.Tree.{member}
-use Rattle.schema.specs.Reader.{readNumber, readRange, readFixed, readVariable, readChapter, readKind, readColumn, readColumns, readSchema, ended, readFile, fileOf}
-use Rattle.schema.specs.Schemas.{ownColumns, nestedSchemas, schemasOf, readSchemas, schemaAt, columnsOf, numberFrom, childNumber}
-use Rattle.schema.specs.Questions.{withSchema}
+use Rattle.tree.specs.Numbers.{thirdGroup, secondGroup, numberIn}
+use Rattle.tree.specs.Tree.{member}
+use Rattle.tree.specs.Reader.{readNumber, readRange, readFixed, readVariable, readChapter, readKind, readColumn, readColumns, readSchema, ended, readFile, fileOf}
+use Rattle.tree.specs.Schemas.{ownColumns, nestedSchemas, schemasOf, readSchemas, schemaAt, columnsOf, numberFrom, childNumber}
+use Rattle.questions.specs.Questions.{withSchema}
 use Rattle.header.specs.Header.{headerFields, headerOf}
 use Rattle.row.specs.Presence.{nullables, presenceBytes, marks, bitOf, present, chapterPresent, clear}
 use Rattle.row.specs.Rows.{step, walk, arrive, opened, walked, fieldOf, columnOf, known, lookUp, rowEnd}

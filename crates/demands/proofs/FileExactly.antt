@@ -20,20 +20,20 @@ use Rattle.column.specs.declared.types.Kind.{Kind}
 use Rattle.column.specs.declared.types.Kind.the-variants.{Fixed, Variable, Wide, Chapter, Unknown}
 use Rattle.column.specs.declared.column.Column.{Column}
 use Rattle.column.specs.Types.{kindOf, variableKind}
-use Rattle.schema.specs.Numbers.{numberLimit, thirdGroup, secondGroup, numberIn}
+use Rattle.tree.specs.Numbers.{numberLimit, thirdGroup, secondGroup, numberIn}
 use Rattle.column.specs.Layout.{mostColumns}
-use Rattle.schema.specs.Tree.{mostFileColumns, mostDepth, mostFlags, mostMaximum, Tree, numbers, member}
-use Rattle.schema.specs.Reader.{State, stateAt, Got, counting, seeing, readNumber, readRange, readFixed, readVariable, readChapter, readKind, readColumn, readColumns, readSchema, ended, readFile, fileOf}
-use Rattle.schema.specs.Schemas.{Entry, asColumn, Schema, schema, schemasOf, readSchemas, schemaAt, columnsOf, numberFrom, childNumber}
-use Rattle.schema.specs.Questions.{alone, withSchema, countsOf, columnCountOf, foundChild, childOf, entryAt, columnOf}
-use Rattle.schema.specs.Writer.{coded, inRange, fileWritten, numbersListed}
-use Rattle.schema.proofs.Children.{child-found}
-use Rattle.schema.proofs.Errors.{ErrorAt, short, form, out-of-range, too-much, refused-where}
-use Rattle.schema.proofs.Errors as errors
-use Rattle.schema.proofs.Forms.{Over, form-over}
-use Rattle.schema.proofs.Coding.{coded-bytewise}
-use Rattle.schema.proofs.Trips.{AllSmall}
-use Rattle.schema.proofs.Laws.{file-over, file-within}
+use Rattle.tree.specs.Tree.{mostFileColumns, mostDepth, mostFlags, mostMaximum, Tree, numbers, member}
+use Rattle.tree.specs.Reader.{State, stateAt, Got, counting, seeing, readNumber, readRange, readFixed, readVariable, readChapter, readKind, readColumn, readColumns, readSchema, ended, readFile, fileOf}
+use Rattle.tree.specs.Schemas.{Entry, asColumn, Schema, schema, schemasOf, readSchemas, schemaAt, columnsOf, numberFrom, childNumber}
+use Rattle.questions.specs.Questions.{alone, withSchema, countsOf, columnCountOf, foundChild, childOf, entryAt, columnOf}
+use Rattle.numbers.specs.Writer.{coded, inRange, fileWritten, numbersListed}
+use Rattle.tree.proofs.Children.{child-found}
+use Rattle.tree.proofs.Errors.{ErrorAt, short, form, out-of-range, too-much, refused-where}
+use Rattle.tree.proofs.Errors as errors
+use Rattle.numbers.proofs.Forms.{Over, form-over}
+use Rattle.numbers.proofs.Coding.{coded-bytewise}
+use Rattle.numbers.proofs.Trips.{AllSmall}
+use Rattle.tree.proofs.Laws.{file-over, file-within}
 use Rattle.grammar.proofs.RowErrors.{OfError, no-error, an-error, of-bind, of-check, of-other, of-told}
 use Rattle.adtg.specs.InSchema.{both, inSchema}
 use Rattle.demands.specs.Checks.{Refusals, Silent, Never, Nothing, _then_, first, second, Exactly, Faults, Of, of, Lent, lent, lentNumbers, Sizes, over, within, Missing, missing, NoRoom}

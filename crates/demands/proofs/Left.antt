@@ -8,8 +8,8 @@ use Rattle.wire.specs.declared.output.Written.{Written}
 use Rattle.wire.specs.Read.{Bytes, Read, ok, bad}
 use Rattle.wire.specs.Output.{outputAfter, sizeOf, toldWritten, Wrote}
 use Rattle.wire.proofs.Pieces.{bad-ok}
-use Rattle.schema.specs.declared.listing.Listed.{Listed}
-use Rattle.schema.specs.Writer.{toldListed, Lists}
+use Rattle.numbers.specs.declared.listing.Listed.{Listed}
+use Rattle.numbers.specs.Writer.{toldListed, Lists}
 use Rattle.encode.specs.Writers.{outputWith, WroteAt}
 use Rattle.grammar.specs.Grammar.{Row}
 use Rattle.section.specs.declared.read.RowsRead.{RowsRead}

@@ -17,11 +17,11 @@ use Rattle.column.specs.Types.{types, kindIn, kindOf}
 use Rattle.column.specs.Columns.{isNullable}
 use Rattle.row.specs.Presence.{noColumn}
 use Rattle.row.specs.Rows.{lookUp, lookUpRow}
-use Rattle.schema.specs.Numbers.{thirdGroup, secondGroup, numberIn}
-use Rattle.schema.specs.Tree.{member}
-use Rattle.schema.specs.Reader.{readNumber, readRange, readFixed, readVariable, readChapter, readKind, readColumn, readColumns, readSchema, ended, readFile, fileOf}
-use Rattle.schema.specs.Schemas.{ownColumns, nestedSchemas, schemasOf, readSchemas, schemaAt}
-use Rattle.schema.specs.Questions.{withSchema}
+use Rattle.tree.specs.Numbers.{thirdGroup, secondGroup, numberIn}
+use Rattle.tree.specs.Tree.{member}
+use Rattle.tree.specs.Reader.{readNumber, readRange, readFixed, readVariable, readChapter, readKind, readColumn, readColumns, readSchema, ended, readFile, fileOf}
+use Rattle.tree.specs.Schemas.{ownColumns, nestedSchemas, schemasOf, readSchemas, schemaAt}
+use Rattle.questions.specs.Questions.{withSchema}
 use Rattle.plan.specs.declared.plan.Plan.{Plan}
 use Rattle.plan.specs.Plans.{planOf, plannedRow, fixedPlace}
 use Rattle.plan.specs.Places.{placeOf}

@@ -15,7 +15,7 @@ use Rattle.wire.specs.declared.error.Input.the-variants as input
 use Rattle.wire.specs.Read.{Bytes, Read, ok, bad, _>>=_, check, about, whole}
 use Rattle.wire.proofs.Laws.{whole-fits, whole-short}
 use Rattle.wire.proofs.Pieces.{check-ok, about-ok}
-use Rattle.schema.specs.Schemas.{Schema, childNumber}
+use Rattle.tree.specs.Schemas.{Schema, childNumber}
 use Rattle.grammar.specs.Grammar.{Element, Before, other, after, columnsAt, rows}
 use Rattle.grammar.specs.Reader.{Token, parentToken, childToken, changeToken, deleteToken, doneToken, unknownToken, tokenOf, knownChild, follows, idAt, element, scan, elements, section}
 use Rattle.grammar.proofs.Ends.{row-ends, update-ends}

@@ -16,10 +16,10 @@ use Rattle.wire.specs.Output.{put}
 use Rattle.wire.proofs.Laws.{put-fits}
 use Rattle.wire.proofs.Pieces.{bad-ok, bind-ok, ok-ok, sized-ok}
 use Rattle.column.specs.Types.{types, kindIn, kindOf}
-use Rattle.schema.specs.Numbers.{thirdGroup, secondGroup, numberIn}
-use Rattle.schema.specs.Tree.{member}
-use Rattle.schema.specs.Reader.{readNumber, readRange, readFixed, readVariable, readChapter, readKind, readColumn, readColumns, readSchema, ended, readFile, fileOf}
-use Rattle.schema.specs.Schemas.{Schema, ownColumns, nestedSchemas, schemasOf, readSchemas}
+use Rattle.tree.specs.Numbers.{thirdGroup, secondGroup, numberIn}
+use Rattle.tree.specs.Tree.{member}
+use Rattle.tree.specs.Reader.{readNumber, readRange, readFixed, readVariable, readChapter, readKind, readColumn, readColumns, readSchema, ended, readFile, fileOf}
+use Rattle.tree.specs.Schemas.{Schema, ownColumns, nestedSchemas, schemasOf, readSchemas}
 use Rattle.grammar.specs.Grammar.{Element, other, Split, Row, entry, childKind, updateStart, rows}
 use Rattle.grammar.specs.Reader.{section}
 use Rattle.grammar.proofs.Demand as grammar

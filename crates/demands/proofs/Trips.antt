@@ -35,13 +35,13 @@ use Rattle.header.specs.Options.{asyncAllowed, optionsOf, stringBytes, headByte
 use Rattle.header.proofs.Laws.{options-sized}
 use Rattle.header.proofs.Trips.{OptionsBack}
 use Rattle.header.proofs.Trips as header
-use Rattle.schema.specs.Numbers.{groups, thirdGroup, secondGroup, numberIn}
-use Rattle.schema.specs.Tree.{member, numbers}
-use Rattle.schema.specs.Reader.{readNumber, readRange, readFixed, readVariable, readChapter, readKind, readColumn, readColumns, readSchema, ended, readFile, fileOf}
-use Rattle.schema.specs.Schemas.{asColumn, ownColumns, nestedSchemas, schemasOf, readSchemas, schemaAt}
-use Rattle.schema.specs.Questions.{withSchema, alone, Selected, selectedOf}
-use Rattle.schema.specs.Writer.{codedNumber, coded, inRange, ofNumbers, fileWritten, numbersListed}
-use Rattle.schema.proofs.Trips as schema
+use Rattle.tree.specs.Numbers.{groups, thirdGroup, secondGroup, numberIn}
+use Rattle.tree.specs.Tree.{member, numbers}
+use Rattle.tree.specs.Reader.{readNumber, readRange, readFixed, readVariable, readChapter, readKind, readColumn, readColumns, readSchema, ended, readFile, fileOf}
+use Rattle.tree.specs.Schemas.{asColumn, ownColumns, nestedSchemas, schemasOf, readSchemas, schemaAt}
+use Rattle.questions.specs.Questions.{withSchema, alone, Selected, selectedOf}
+use Rattle.numbers.specs.Writer.{codedNumber, coded, inRange, ofNumbers, fileWritten, numbersListed}
+use Rattle.numbers.proofs.Trips as schema
 use Rattle.row.specs.Rows.{Answer, lookUp, rowEnd}
 use Rattle.row.specs.Rows as rows
 use Rattle.row.specs.Updates.{UpdateAnswer, lookUpdate, updateEnd}

@@ -8,7 +8,7 @@ use lib.ListN.{length}
 use lib.Dec.{eqb}
 use Rattle.wire.specs.Read.{Bytes, Read, ok, pick}
 use Rattle.row.specs.Rows.{Answer}
-use Rattle.schema.specs.Schemas.{Schema, childNumber}
+use Rattle.tree.specs.Schemas.{Schema, childNumber}
 use Rattle.grammar.specs.Grammar.{Row}
 use Rattle.batch.specs.Spans.{parents, ownerOf, startIn, Span, span, nullMark, chapterMark, spanIn}
 use Rattle.adtg.specs.Rows.{lookUpIn}

@@ -5,7 +5,7 @@ use mathlib.Core.List.{List, [], _∷_, map}
 use Rattle.wire.specs.Read.{Bytes, Read, ok, bad}
 use Rattle.header.specs.declared.header.Header.{Header}
 use Rattle.header.specs.Header.{headerOf}
-use Rattle.schema.specs.Schemas.{Entry, entry, Schema, schema, readSchemas}
+use Rattle.tree.specs.Schemas.{Entry, entry, Schema, schema, readSchemas}
 use Rattle.row.specs.Rows.{Answer, field, null, chapter}
 use Rattle.grammar.specs.Grammar.{Row}
 use Rattle.section.specs.Table.{rowNumbers, rowsRead}

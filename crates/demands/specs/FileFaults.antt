@@ -10,12 +10,12 @@ use Rattle.wire.specs.Read.{Bytes, Read, ok, bad, limit}
 use Rattle.column.specs.declared.column.Column.{Column}
 use Rattle.column.specs.declared.types.Kind.the-variants.{Chapter, Unknown}
 use Rattle.column.specs.Types.{kindOf, variableKind}
-use Rattle.schema.specs.Numbers.{numberLimit}
+use Rattle.tree.specs.Numbers.{numberLimit}
 use Rattle.column.specs.Layout.{mostColumns}
-use Rattle.schema.specs.Tree.{mostFileColumns, mostDepth, mostFlags, mostMaximum, Tree, numbers, member}
-use Rattle.schema.specs.Reader.{State, stateAt, Got, counting, seeing, Node, readNumber, readRange, readColumn, readSchema, fileOf}
-use Rattle.schema.specs.Schemas.{Schema, schema, readSchemas}
-use Rattle.schema.specs.Writer.{coded}
+use Rattle.tree.specs.Tree.{mostFileColumns, mostDepth, mostFlags, mostMaximum, Tree, numbers, member}
+use Rattle.tree.specs.Reader.{State, stateAt, Got, counting, seeing, Node, readNumber, readRange, readColumn, readSchema, fileOf}
+use Rattle.tree.specs.Schemas.{Schema, schema, readSchemas}
+use Rattle.numbers.specs.Writer.{coded}
 use Rattle.grammar.specs.Grammar.{columnsAt}
 
 -- A number in what is left, which stands at `at`. 1: it lacks a group, at the end of the input. 5: it has a group more than it needs, or more

@@ -9,7 +9,7 @@ use Rattle.wire.specs.declared.error.Input.the-variants as input
 use Rattle.wire.specs.Read.{Bytes, Read, ok, bad}
 use Rattle.row.specs.Rows.{rowEnd}
 use Rattle.row.specs.Updates.{updateEnd}
-use Rattle.schema.specs.Schemas.{Schema, childNumber}
+use Rattle.tree.specs.Schemas.{Schema, childNumber}
 use Rattle.grammar.specs.Grammar.{Before, other, after, columnsAt, Row}
 use Rattle.grammar.specs.Reader.{idAt, section}
 use Rattle.section.specs.Table.{roomFor}

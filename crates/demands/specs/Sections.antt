@@ -5,7 +5,7 @@ use mathlib.Core.Path.{_≡_}
 use mathlib.Core.List.{List, _++_}
 use lib.ListN.{length, getD, drop}
 use Rattle.wire.specs.Read.{Bytes, ok, limit}
-use Rattle.schema.specs.Schemas.{Schema, readSchemas}
+use Rattle.tree.specs.Schemas.{Schema, readSchemas}
 use Rattle.grammar.specs.Grammar.{Row, entry}
 use Rattle.section.specs.Table.{tableNumbers}
 

@@ -9,7 +9,7 @@ use Rattle.wire.specs.Output.{outputAfter}
 use Rattle.column.specs.declared.column.Column.{Column}
 use Rattle.header.specs.Header.{headerWritten}
 use Rattle.header.specs.Options.{optionsWritten}
-use Rattle.schema.specs.Writer.{fileWritten, numbersListed}
+use Rattle.numbers.specs.Writer.{fileWritten, numbersListed}
 use Rattle.row.specs.Presence.{noColumn}
 use Rattle.row.specs.Rows.{Answer}
 use Rattle.row.specs.Updates.{UpdateAnswer}

@@ -1,8 +1,8 @@
 // Examples of schema files.
 use crate::head::show_error;
 use crate::head::show_number;
-use schema::file::CountsRead;
-use schema::file::count_file;
+use questions::file::CountsRead;
+use questions::file::count_file;
 
 const OUT: i32 = 1;
 

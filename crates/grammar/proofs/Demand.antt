@@ -13,7 +13,7 @@ use Rattle.column.specs.declared.column.Column.{Column}
 use Rattle.column.specs.Fields.{fieldAt}
 use Rattle.row.specs.Rows.{rowEnd}
 use Rattle.row.specs.Updates.{updateEnd}
-use Rattle.schema.specs.Schemas.{Schema}
+use Rattle.tree.specs.Schemas.{Schema}
 use Rattle.grammar.specs.Grammar.{Field, Original, Update, Element, parentElement, childElement, changeElement, deleteElement, Before, other, Split, done, parent, child, change, delete, Row, rows}
 use Rattle.grammar.specs.Reader.{elements, section}
 use Rattle.grammar.proofs.Rows.{foundAt, field-complete, row-complete, update-complete}

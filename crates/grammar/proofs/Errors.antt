@@ -16,7 +16,7 @@ use Rattle.wire.proofs.Pieces.{check-ok, whole-ok}
 use Rattle.column.specs.declared.column.Column.{Column}
 use Rattle.row.specs.Rows.{rowEnd}
 use Rattle.row.specs.Updates.{updateEnd}
-use Rattle.schema.specs.Schemas.{Schema, childNumber}
+use Rattle.tree.specs.Schemas.{Schema, childNumber}
 use Rattle.grammar.specs.Grammar.{Element, Before, other, after, columnsAt}
 use Rattle.grammar.specs.Reader.{Token, parentToken, childToken, changeToken, deleteToken, doneToken, unknownToken, tokenOf, knownChild, follows, idAt, element, scan, elements, section}
 use Rattle.grammar.proofs.Ends.{row-ends, update-ends}

@@ -10,11 +10,11 @@ use Rattle.wire.specs.Bits.{bitAt, bitSet, mapBytes}
 use Rattle.column.specs.Types.{types, kindIn, kindOf}
 use Rattle.column.specs.Columns.{isNullable, prefixSize, greatest, lengthErrorOf, lengthError}
 use Rattle.column.specs.Fields.{allowed, bytesAt, variableAt, fieldAt}
-use Rattle.schema.specs.Numbers.{thirdGroup, secondGroup, numberIn}
-use Rattle.schema.specs.Tree.{member}
-use Rattle.schema.specs.Reader.{readNumber, readRange, readFixed, readVariable, readChapter, readKind, readColumn, readColumns, readSchema, ended, readFile, fileOf}
-use Rattle.schema.specs.Schemas.{Schema, schema, ownColumns, nestedSchemas, schemasOf, readSchemas, columnsOf, numberFrom, childNumber}
-use Rattle.schema.specs.Schemas as S
+use Rattle.tree.specs.Numbers.{thirdGroup, secondGroup, numberIn}
+use Rattle.tree.specs.Tree.{member}
+use Rattle.tree.specs.Reader.{readNumber, readRange, readFixed, readVariable, readChapter, readKind, readColumn, readColumns, readSchema, ended, readFile, fileOf}
+use Rattle.tree.specs.Schemas.{Schema, schema, ownColumns, nestedSchemas, schemasOf, readSchemas, columnsOf, numberFrom, childNumber}
+use Rattle.tree.specs.Schemas as S
 use Rattle.row.specs.Presence.{nullables, presenceBytes, marks, present, chapterPresent, clear}
 use Rattle.row.specs.Rows.{step, walk, opened, walked, rowEnd}
 use Rattle.row.specs.Updates.{numbered, updateBytes, chapterMarked, forceBroken, carried, carriedIn, updateOpened, updateWalked, updateEnd}

@@ -8,7 +8,7 @@ use lib.Dec.{eqb}
 use Rattle.wire.specs.Read.{Bytes, Read, ok, bad, _>>=_, check, cut, whole}
 use Rattle.row.specs.Rows.{rowEnd}
 use Rattle.row.specs.Updates.{updateEnd}
-use Rattle.schema.specs.Schemas.{Schema, childNumber}
+use Rattle.tree.specs.Schemas.{Schema, childNumber}
 use Rattle.grammar.specs.Grammar.{Element, parentElement, childElement, changeElement, deleteElement, Before, other, after, columnsAt, Row, entry, childKind, updateStart, rows}
 use Rattle.grammar.specs.Reader.{Token, parentToken, childToken, changeToken, deleteToken, doneToken, unknownToken, tokenOf, knownChild, follows, idAt, element, scan, elements, section}
 use Rattle.grammar.specs.Pending.{Pending, nothing, child-row, beforeOf, flush, close, turn, rowsFrom}

@@ -15,7 +15,7 @@ use Rattle.wire.specs.Read.{Bytes, Read, ok, _>>=_, pick, check, cut}
 use Rattle.wire.specs.Integers.{intAt}
 use Rattle.wire.proofs.Laws.{whole-fits}
 use Rattle.wire.proofs.Pieces.{between, here, bad-ok, bind-ok, check-ok, ok-ok, whole-ok, whole-is, cut-is}
-use Rattle.schema.specs.Schemas.{Schema}
+use Rattle.tree.specs.Schemas.{Schema}
 use Rattle.grammar.specs.Grammar.{IdBytes, Element, parentElement, childElement, changeElement, Before, other, after, columnsAt, Split, done, parent, child, change, delete}
 use Rattle.grammar.specs.Reader.{Token, parentToken, childToken, changeToken, deleteToken, doneToken, unknownToken, tokenOf, knownChild, follows, idAt, element, scan}
 use Rattle.grammar.proofs.Rows.{row-sound, row-complete, update-sound, update-complete}

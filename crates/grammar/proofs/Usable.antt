@@ -17,7 +17,7 @@ use Rattle.row.proofs.Later.{Agree, accepted-later}
 use Rattle.row.proofs.Shift.{inner-row-looks-up, inner-update-looks-up}
 use Rattle.row.proofs.UpdateLaws.{current-updated, current-forced, current-unchanged, current-chapter, from-row}
 use Rattle.row.proofs.UpdateLater.{examined-later}
-use Rattle.schema.specs.Schemas.{Schema, childNumber}
+use Rattle.tree.specs.Schemas.{Schema, childNumber}
 use Rattle.grammar.specs.Grammar.{Original, Update, Element, Before, after, columnsAt, Split, done, parent, child, change, delete, Row, entry, childKind, updateStart, rows}
 use Rattle.grammar.specs.Reader.{section}
 use Rattle.grammar.proofs.Rows.{row-complete, update-complete}

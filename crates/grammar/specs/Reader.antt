@@ -11,7 +11,7 @@ use Rattle.wire.specs.Read.{Bytes, Read, ok, bad, _>>=_, pick, check, cut, whol
 use Rattle.wire.specs.Integers.{intAt}
 use Rattle.row.specs.Rows.{rowEnd}
 use Rattle.row.specs.Updates.{updateEnd}
-use Rattle.schema.specs.Schemas.{Schema, childNumber}
+use Rattle.tree.specs.Schemas.{Schema, childNumber}
 use Rattle.grammar.specs.Grammar.{Element, parentElement, childElement, changeElement, deleteElement, Before, other, after, columnsAt, Row, rows}
 
 pub data Token : Type 0 where

@@ -21,7 +21,7 @@ use Rattle.wire.proofs.Laws.{put-fits, put-put, length-put}
 use Rattle.wire.proofs.Pieces.{bind-ok, check-ok, about-ok, ok-ok}
 use Rattle.io.specs.Counts.{Counts}
 use Rattle.io.specs.Digits.{digits, Fewest}
-use Rattle.schema.specs.Schemas.{Schema, readSchemas}
+use Rattle.tree.specs.Schemas.{Schema, readSchemas}
 use Rattle.grammar.specs.Grammar.{Row, entry}
 use Rattle.grammar.specs.Reader.{section}
 use Rattle.section.specs.Table.{tableNumbers, rowsFitting, rowsRead, rowCount, tableAfter}

@@ -11,12 +11,12 @@ use Rattle.wire.proofs.Pieces.{ok-ok, bind-ok, check-ok}
 use Rattle.column.specs.declared.types.Kind.{Kind}
 use Rattle.column.specs.declared.types.Kind.the-variants.{Fixed, Variable, Wide, Chapter, Unknown}
 use Rattle.column.specs.Types.{kindOf, variableKind}
-use Rattle.schema.specs.Numbers.{numberLimit, Found, found, numberAt}
-use Rattle.schema.specs.Tree.{mostFlags, mostMaximum}
-use Rattle.schema.specs.Filling.{rangeAt}
+use Rattle.tree.specs.Numbers.{numberLimit, Found, found, numberAt}
+use Rattle.tree.specs.Tree.{mostFlags, mostMaximum}
+use Rattle.tree.specs.Filling.{rangeAt}
 use Rattle.schema.specs.Heads.{Head, fieldHead, idHead, fixedHead, variableHead, chapterHead, headBy, headAt}
-use Rattle.schema.proofs.Lists.{fixed-code, variable-code, chapter-code}
-use Rattle.schema.proofs.Offsets.{number-inside, number-small}
+use Rattle.tree.proofs.Lists.{fixed-code, variable-code, chapter-code}
+use Rattle.tree.proofs.Offsets.{number-inside, number-small}
 
 -- no code over a byte is known
 pub unknown-code : (code : ℕ) → 255 < code → kindOf code ≡ Unknown

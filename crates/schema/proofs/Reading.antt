@@ -1,30 +1,28 @@
 -- Laws of the schema reader and the column reader as code does them: ids in the table, and columns one after the other.
 -- Assumes nothing.
-use Prim.Native.Nat.{ℕ, zero, suc, _+_, _-_, _≤_, _<_}
-use mathlib.Core.Path.{_≡_, refl, sym, ap, subst, _∙_}
-use mathlib.Core.List.{List, [], _∷_, _++_}
-use mathlib.Core.Bool.{Bool, true, false, not}
+use Prim.Native.Nat.{ℕ, suc, _+_, _-_, _≤_, _<_}
+use mathlib.Core.Path.{_≡_, refl, sym, ap, _∙_}
+use mathlib.Core.List.{List}
+use mathlib.Core.Bool.{true, false, not}
 use native.Mathlib.Omega.{arith}
-use lib.ListN.{length, getD, set}
-use lib.Dec.{leb, eqb}
+use lib.ListN.{getD, set}
 use borrow.Author.Tests.{le-leb, lt-leb, eq-eqb, ne-eqb}
 use Rattle.wire.specs.declared.error.Error.{Error}
-use Rattle.wire.specs.declared.error.Input.{Input}
 use Rattle.wire.specs.declared.error.Input.the-variants.{Single}
 use Rattle.wire.specs.Read.{Bytes, Read, ok, bad, _>>=_, check, refused}
 use Rattle.schema.specs.declared.reader.Place.{Place}
 use Rattle.column.specs.Layout.{mostColumns}
-use Rattle.schema.specs.Tree.{mostFileColumns, Tree, none, field, chapter, columns, nestedCounts, counts, chapters, member}
-use Rattle.schema.specs.Table.{schemaSlot, idIn, idsFrom, idsIn, packed, block}
+use Rattle.tree.specs.Tree.{mostFileColumns, columns, member}
+use Rattle.tree.specs.Table.{schemaSlot, idIn, idsFrom, idsIn, packed, block}
 use Rattle.column.specs.declared.types.Kind.{Kind}
 use Rattle.column.specs.declared.types.Kind.the-variants.{Fixed, Variable, Wide, Chapter, Unknown}
 use Rattle.column.specs.Types.{chapterCode, kindOf}
-use Rattle.schema.specs.Numbers.{Found, found, numberAt}
-use Rattle.schema.specs.Filling.{Filled, filled, moved, holding, rangeAt, fillFixed, fillVariable, fillChapter, fillKind, fillColumn, fillColumns, fillSchema}
+use Rattle.tree.specs.Numbers.{Found, found, numberAt}
+use Rattle.tree.specs.Filling.{Filled, filled, moved, holding, rangeAt, fillFixed, fillVariable, fillChapter, fillKind, fillColumn, fillColumns, fillSchema}
 use Rattle.schema.specs.Heads.{Head, fieldHead, idHead, fixedHead, variableHead, chapterHead, headBy, headAt}
 use Rattle.schema.specs.declared.reader.PlaceRead.{PlaceRead}
 use Rattle.schema.specs.declared.reader.PlaceRead.the-variants.{Read as read, Refused}
-use Rattle.schema.specs.Told.{placed, Ready, Onward, Moves}
+use Rattle.schema.specs.Told.{Moves}
 
 -- Ids in the table, from number i on.
 

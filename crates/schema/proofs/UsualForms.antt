@@ -7,15 +7,15 @@ use native.Mathlib.Omega.{arith}
 use lib.ListN.{length, getD, set}
 use Rattle.wire.specs.Read.{Bytes, Read, ok}
 use Rattle.column.specs.Types.{kindOf}
-use Rattle.schema.specs.Numbers.{found, numberAt}
-use Rattle.schema.specs.Tree.{mostFlags, mostMaximum}
-use Rattle.schema.specs.Filling.{Filled, filled, rangeAt, fillColumns}
+use Rattle.tree.specs.Numbers.{found, numberAt}
+use Rattle.tree.specs.Tree.{mostFlags, mostMaximum}
+use Rattle.tree.specs.Filling.{Filled, filled, rangeAt, fillColumns}
 use Rattle.schema.specs.Heads.{fieldHead, fixedHead, variableHead, headBy, headAt}
 use Rattle.schema.specs.declared.reader.Place.{Place}
 use Rattle.schema.specs.declared.usual.Run.{Run}
 use Rattle.schema.specs.Told.{placed}
 use Rattle.schema.specs.Usual.{Slotted, Ran}
-use Rattle.schema.proofs.Laws.{number-one, number-more, number-two, range-within}
+use Rattle.tree.proofs.Laws.{number-one, number-more, number-two, range-within}
 use Rattle.schema.proofs.Reading.{column-filled, columns-next}
 
 -- Behind the code.

@@ -6,13 +6,11 @@ use Rattle.wire.specs.Read.{Bytes, Read, ok, bad, _>>=_, refused}
 use Rattle.column.specs.declared.types.Kind.{Kind}
 use Rattle.column.specs.declared.types.Kind.the-variants.{Fixed, Variable, Wide, Chapter, Unknown}
 use Rattle.column.specs.Types.{kindOf}
-use Rattle.schema.specs.declared.number.NumberRead.{NumberRead}
-use Rattle.schema.specs.declared.number.NumberRead.the-variants as number
 use Rattle.schema.specs.declared.head.HeadRead.{HeadRead}
 use Rattle.schema.specs.declared.head.HeadRead.the-variants as head
-use Rattle.schema.specs.Numbers.{Found, found, numberAt}
-use Rattle.schema.specs.Tree.{mostFlags, mostMaximum}
-use Rattle.schema.specs.Filling.{rangeAt}
+use Rattle.tree.specs.Numbers.{numberAt}
+use Rattle.tree.specs.Tree.{mostFlags, mostMaximum}
+use Rattle.tree.specs.Filling.{rangeAt}
 
 -- The numbers of a column. Of a chapter also where its id stands.
 pub data Head : Type 0 where
@@ -50,11 +48,7 @@ headAt b at = do
   code ← numberAt b at
   headBy (kindOf (code .value)) b (code .value) at (code .at)
 
--- what the answers say
-abbrev pub toldNumber : NumberRead → Read Found
-toldNumber (number.Number value end) = ok (found value end)
-toldNumber (number.Refused e) = refused e
-
+-- what the answer says
 abbrev pub toldHead : HeadRead → Read Head
 toldHead (head.Field code flags maximum end) = ok (fieldHead code flags maximum end)
 toldHead (head.Chapter flags id idAt end) = ok (idHead flags id idAt end)

@@ -5,13 +5,21 @@ use mathlib.Core.Path.{_≡_}
 use mathlib.Core.List.{List}
 use lib.ListN.{length, replicate}
 use Rattle.wire.specs.Read.{Bytes, Read, ok, bad, refused}
+use Rattle.schema.specs.declared.number.NumberRead.{NumberRead}
+use Rattle.schema.specs.declared.number.NumberRead.the-variants as number
 use Rattle.schema.specs.declared.reader.Place.{Place}
 use Rattle.schema.specs.declared.reader.PlaceRead.{PlaceRead}
 use Rattle.schema.specs.declared.reader.PlaceRead.the-variants.{Read as read, Refused}
 use Rattle.schema.specs.declared.reader.FileTable.{FileTable}
-use Rattle.schema.specs.Tree.{mostFileColumns}
-use Rattle.schema.specs.Table.{tableSize}
-use Rattle.schema.specs.Filling.{Filled, filled, fillFile}
+use Rattle.tree.specs.Numbers.{Found, found}
+use Rattle.tree.specs.Tree.{mostFileColumns}
+use Rattle.tree.specs.Table.{tableSize}
+use Rattle.tree.specs.Filling.{Filled, filled, fillFile}
+
+-- a number and the offset behind it
+abbrev pub toldNumber : NumberRead → Read Found
+toldNumber (number.Number value end) = ok (found value end)
+toldNumber (number.Refused e) = refused e
 
 -- a place with its table
 abbrev pub placed : Place → List ℕ → Filled
@@ -37,10 +45,6 @@ pub record Tabled (b : Bytes) (r : FileTable) : Type 0 where
   pub holds : r .table ≡ tableOf (fillFile b blank)
 
 -- Inner.
-
--- where a file starts
-abbrev pub origin : Place
-origin = record { at = 0; columns = 0; schemas = 0 }
 
 -- The reader stands inside the input, has slots for the columns counted so far, and no more schemas than columns.
 pub record Ready (b : Bytes) (p : Place) : Type 0 where

@@ -9,8 +9,8 @@ use Rattle.column.specs.Types.{kindOf}
 use Rattle.schema.specs.declared.usual.Usual.{Usual}
 use Rattle.schema.specs.declared.usual.Usual.the-variants.{Column, Unusual}
 use Rattle.schema.specs.declared.usual.Run.{Run}
-use Rattle.schema.specs.Table.{packed}
-use Rattle.schema.specs.Filling.{Filled, filled, fillColumns}
+use Rattle.tree.specs.Table.{packed}
+use Rattle.tree.specs.Filling.{Filled, filled, fillColumns}
 use Rattle.schema.specs.Heads.{Head, fieldHead, headBy}
 
 -- a column that was read is in the one number `slot` and ends at `end`

@@ -1,13 +1,10 @@
-// Schemas (document 01's column sheets): the schema file, read into a table, and asked for its schemas and columns.
-// It knows columns and not rows; rows, plans and sections ask it for columns.
+// Schema files (document 01's column sheets): the reader, and the table that it fills. What is asked of that table is in crate `questions`,
+// the writer in crate `numbers`.
 
-pub mod file;
 pub mod head;
-pub mod listing;
 pub mod number;
 pub mod reader;
 pub mod usual;
-pub mod writer;
 
 // The most columns of a file, and so the most schemas: a table has as many slots for each.
 pub const MOST_FILE_COLUMNS: usize = 256;

@@ -1,8 +1,8 @@
 // Numbers of a schema file: groups of seven bits, low group first, in the shortest form.
 ghost use mathlib.Core.Path.{_≡_};
-ghost use Rattle.schema.specs.Numbers.{numberAt};
-ghost use Rattle.schema.specs.Filling.{rangeAt};
-ghost use Rattle.schema.specs.Heads.{toldNumber};
+ghost use Rattle.tree.specs.Numbers.{numberAt};
+ghost use Rattle.tree.specs.Filling.{rangeAt};
+ghost use Rattle.schema.specs.Told.{toldNumber};
 use wire::error::Error;
 use wire::error::ErrorKind;
 use wire::error::Input;
@@ -15,7 +15,7 @@ pub enum NumberRead {
 }
 
 // The number at `at`.
-pub(crate) fn number_at(file: &[u8], at: usize) -> NumberRead
+pub fn number_at(file: &[u8], at: usize) -> NumberRead
     ensures { λ r. ⌜ toldNumber r ≡ numberAt (now (file .entry)) at ⌝ }
 {
     if file.len() <= at {

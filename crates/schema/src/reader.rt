@@ -2,11 +2,11 @@
 // Each column and each schema is one number of the table (specs/Table.antt); the columns of a schema lie together.
 ghost use mathlib.Core.Path.{_≡_};
 ghost use Prim.Native.Nat.{_<_, _≤_};
-ghost use Rattle.schema.specs.Numbers.{numberLimit};
-ghost use Rattle.schema.specs.Tree.{member};
-ghost use Rattle.schema.specs.Table.{idsIn, packed, block};
-ghost use Rattle.schema.specs.Filling.{fillColumn, fillSchema, fillFile};
-ghost use Rattle.schema.specs.Told.{placed, origin, Ready, Told, Tabled};
+ghost use Rattle.tree.specs.Numbers.{numberLimit};
+ghost use Rattle.tree.specs.Tree.{member};
+ghost use Rattle.tree.specs.Table.{idsIn, packed, block};
+ghost use Rattle.tree.specs.Filling.{fillColumn, fillSchema, fillFile};
+ghost use Rattle.schema.specs.Told.{placed, toldPlace, Ready, Told, Tabled};
 use crate::MOST_DEPTH;
 use crate::MOST_FILE_COLUMNS;
 use crate::head::HeadRead;
@@ -184,8 +184,8 @@ fn read_column(
 }
 
 // A whole file, into a table: how much it has.
-pub(crate) fn read_file(file: &[u8], table: &mut [u64; 512]) -> PlaceRead
-    ensures { λ r. ⌜ Told (now (file .entry)) origin (fillFile (now (file .entry)) (now (table .entry))) (now (table .exit)) r ⌝ }
+pub fn read_file(file: &[u8], table: &mut [u64; 512]) -> PlaceRead
+    ensures { λ r. ⌜ toldPlace r (now (table .exit)) ≡ fillFile (now (file .entry)) (now (table .entry)) ⌝ }
 {
     if LIMIT < file.len() {
         return PlaceRead::Refused(Error {

@@ -13,7 +13,7 @@ use borrow.Author.Tests.{eqb-true, eqb-false}
 use Rattle.wire.specs.Read.{Bytes, AreBytes, Read, ok, bad, pick}
 use Rattle.wire.specs.Output.{put}
 use Rattle.wire.proofs.Pieces.{ok-ok, bad-ok}
-use Rattle.schema.specs.Schemas.{Schema}
+use Rattle.tree.specs.Schemas.{Schema}
 use Rattle.grammar.specs.Grammar.{columnsAt, Row, entry}
 use Rattle.grammar.specs.Reader.{Token, parentToken, childToken, changeToken, deleteToken, doneToken, unknownToken, tokenOf, idAt, section}
 use Rattle.grammar.specs.Pending.{Pending, nothing, child-row, beforeOf, flush}

@@ -15,10 +15,9 @@ use Rattle.wire.specs.Read.{Bytes, AreBytes, cut, Read, ok, bad, _>>=_, pick, c
 use Rattle.wire.specs.Integers.{valueOf, intAt, readInt}
 use Rattle.wire.proofs.Laws.{whole-fits, whole-short}
 use Rattle.wire.proofs.Pieces.{bad-ok, bind-ok, check-ok, ok-ok, cut-length, value-small, bytes-take, bytes-drop}
-use Rattle.schema.specs.Schemas.{Schema, childNumber}
-use Rattle.schema.specs.Table.{schemaSlot, idIn, schemasIn}
-use Rattle.schema.specs.Questions.{or0}
-use Rattle.schema.proofs.Children.{child-found}
+use Rattle.tree.specs.Schemas.{Schema, childNumber, or0}
+use Rattle.tree.specs.Table.{schemaSlot, idIn, schemasIn}
+use Rattle.tree.proofs.Children.{child-found}
 use Rattle.grammar.specs.Grammar.{Before, other}
 use Rattle.grammar.specs.Reader.{Token, childToken, changeToken, deleteToken, doneToken, unknownToken, tokenOf, knownChild, follows, idAt}
 use Rattle.section.specs.Heads.{doneHead, deleteHead, dataHead, headBy, headAt, beforeIn, pairedId}

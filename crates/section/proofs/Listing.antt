@@ -15,7 +15,7 @@ use Rattle.wire.specs.Read.{Bytes, Read, ok, bad, check, about, limit, refused}
 use Rattle.wire.proofs.Laws.{sized-over, sized-within, length-put}
 use Rattle.wire.specs.Output.{put}
 use Rattle.wire.proofs.Pieces.{bad-ok}
-use Rattle.schema.specs.Schemas.{Schema, readSchemas}
+use Rattle.tree.specs.Schemas.{Schema, readSchemas}
 use Rattle.section.specs.declared.read.RowsRead.{RowsRead}
 use Rattle.section.specs.declared.read.RowsRead.the-variants as read
 use Rattle.grammar.specs.Grammar.{Row}

@@ -17,8 +17,8 @@ use Rattle.row.specs.Presence.{Mark, mark, noMark, marks, bitOf}
 use Rattle.row.specs.Updates.{numbered}
 use Rattle.row.proofs.Laws.{bit-few, length-marks, mark-at}
 use Rattle.row.proofs.UpdateLaws.{length-numbered, number-at}
-use Rattle.schema.specs.Schemas.{asColumn}
-use Rattle.schema.specs.Table.{entryIn}
+use Rattle.tree.specs.Schemas.{asColumn}
+use Rattle.tree.specs.Table.{entryIn}
 use Rattle.section.specs.Shapes.{slotColumns}
 use Rattle.section.specs.Maps.{BitAdded, isMarked, isNested, isUnforced, isAny, Masked, MasksAdded, AllMasked}
 use Rattle.section.proofs.Slots.{inSlots, length-slots, slot-asked}

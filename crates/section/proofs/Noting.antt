@@ -11,7 +11,7 @@ use lib.Seq.{getD-set-same, getD-set-other}
 use lib.Dec.{eqb}
 use borrow.Author.Tests.{lt-ltb, le-ltb}
 use Rattle.wire.specs.Read.{Bytes, ok}
-use Rattle.schema.specs.Schemas.{Schema}
+use Rattle.tree.specs.Schemas.{Schema}
 use Rattle.grammar.specs.Grammar.{Before, columnsAt}
 use Rattle.grammar.specs.Reader.{doneToken, tokenOf, knownChild}
 use Rattle.section.specs.Heads.{deleteHead, dataHead}

@@ -10,7 +10,7 @@ use lib.ListN.{length, getD}
 use lib.Dec.{eqb}
 use borrow.Author.Tests.{eqb-true}
 use Rattle.wire.specs.Read.{Bytes, Read, ok, _>>=_, pick, check, whole}
-use Rattle.schema.specs.Schemas.{Schema, childNumber}
+use Rattle.tree.specs.Schemas.{Schema, childNumber}
 use Rattle.wire.proofs.Pieces.{bind-ok, check-ok, ok-ok, bad-ok, bind-same, bind-bind}
 use Rattle.grammar.specs.Grammar.{Before, other, after, columnsAt, Row, entry}
 use Rattle.grammar.specs.Reader.{Token, parentToken, childToken, changeToken, deleteToken, doneToken, unknownToken, tokenOf, knownChild, follows, idAt}

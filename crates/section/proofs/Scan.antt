@@ -13,8 +13,8 @@ use Rattle.wire.specs.Read.{Bytes, AreBytes, Read, ok, bad, _>>=_}
 use Rattle.wire.specs.Output.{put}
 use Rattle.wire.proofs.Pieces.{bind-unit, bind-bind}
 use Rattle.column.specs.declared.column.Column.{Column}
-use Rattle.schema.specs.Schemas.{Schema}
-use Rattle.schema.proofs.Children.{child-found}
+use Rattle.tree.specs.Schemas.{Schema}
+use Rattle.tree.proofs.Children.{child-found}
 use Rattle.grammar.specs.Grammar.{after, columnsAt, Row, entry}
 use Rattle.grammar.specs.Pending.{Pending, nothing, child-row, beforeOf, flush, close, rowsFrom}
 use Rattle.grammar.proofs.Ends.{row-ends, update-ends}

@@ -15,10 +15,10 @@ use Rattle.wire.specs.Read.{Bytes, AreBytes, Read, ok, bad, refused}
 use Rattle.wire.specs.Output.{put}
 use Rattle.wire.proofs.Pieces.{ok-ok, bad-ok}
 use Rattle.column.specs.declared.column.Column.{Column}
-use Rattle.schema.specs.Schemas.{asColumn, Schema, columnsOf, childNumber}
-use Rattle.schema.specs.Table.{schemaSlot, idIn, schemaIn, schemasIn}
-use Rattle.schema.proofs.TableSays.{schemas-in-length, schemas-in-at}
-use Rattle.schema.proofs.Children.{child-found}
+use Rattle.tree.specs.Schemas.{asColumn, Schema, columnsOf, childNumber}
+use Rattle.tree.specs.Table.{schemaSlot, idIn, schemaIn, schemasIn}
+use Rattle.tree.proofs.TableSays.{schemas-in-length, schemas-in-at}
+use Rattle.tree.proofs.Children.{child-found}
 use Rattle.grammar.specs.Grammar.{Before, columnsAt, Row, entry}
 use Rattle.grammar.specs.Reader.{section}
 use Rattle.grammar.specs.Pending.{Pending, child-row, beforeOf, flush}

@@ -15,9 +15,9 @@ use Rattle.row.specs.Presence.{noColumn, one, bitOf}
 use Rattle.row.specs.Updates.{updateBytes}
 use Rattle.row.proofs.Laws.{bit-next, bit-few}
 use Rattle.row.proofs.Arrays.{columns-laid}
-use Rattle.schema.specs.Schemas.{entry, asColumn}
-use Rattle.schema.specs.Table.{entryIn, entriesIn}
-use Rattle.schema.proofs.TableSays.{entries-length, entries-at}
+use Rattle.tree.specs.Schemas.{entry, asColumn}
+use Rattle.tree.specs.Table.{entryIn, entriesIn}
+use Rattle.tree.proofs.TableSays.{entries-length, entries-at}
 use Rattle.section.specs.Shapes.{Held, Sound}
 
 -- the slots of each schema lie in a sound table

@@ -8,20 +8,20 @@ use native.Mathlib.Omega.{arith}
 use lib.ListN.{length, getD}
 use Rattle.wire.specs.Read.{Bytes, AreBytes, ok}
 use Rattle.wire.proofs.Pieces.{bind-ok, ok-ok}
-use Rattle.schema.specs.Tree.{Tree, WellFormed, counts}
-use Rattle.schema.specs.Reader.{fileOf}
-use Rattle.schema.specs.Schemas.{Schema, schema, schemasOf, readSchemas, columnCount, childNumber}
-use Rattle.schema.specs.Table.{schemaSlot, idIn, startIn, countIn, schemaIn, schemasIn}
-use Rattle.schema.specs.Questions.{Slots}
+use Rattle.tree.specs.Tree.{Tree, WellFormed, counts}
+use Rattle.tree.specs.Reader.{fileOf}
+use Rattle.tree.specs.Schemas.{Schema, schema, schemasOf, readSchemas, columnCount, childNumber}
+use Rattle.tree.specs.Table.{schemaSlot, idIn, startIn, countIn, schemaIn, schemasIn, Slots}
 use Rattle.schema.specs.declared.reader.Place.{Place}
 use Rattle.schema.specs.declared.reader.PlaceRead.the-variants as place
 use Rattle.schema.specs.declared.reader.FileTable.{FileTable}
 use Rattle.schema.specs.Told.{placed, blank, Tabled}
-use Rattle.schema.proofs.SchemaLists.{schemas-length, column-total, schemas-few}
-use Rattle.schema.proofs.Children.{child-only}
-use Rattle.schema.proofs.TableSays.{schemas-in-length, schemas-in-at}
-use Rattle.schema.proofs.Theorem.{file-of-iff}
-use Rattle.schema.proofs.Questions.{schemas-read, slots-of, blank-long, tabled-read}
+use Rattle.tree.proofs.SchemaLists.{schemas-length, column-total, schemas-few}
+use Rattle.tree.proofs.Children.{child-only}
+use Rattle.tree.proofs.TableSays.{schemas-in-length, schemas-in-at}
+use Rattle.tree.proofs.Theorem.{file-of-iff}
+use Rattle.tree.proofs.Filled.{schemas-read, slots-of}
+use Rattle.schema.proofs.Tabled.{blank-long, tabled-read}
 use Rattle.section.specs.Shapes.{Sound}
 
 -- A table that says the schemas of a well-formed file.

@@ -22,9 +22,9 @@ use Rattle.row.specs.Presence.{noColumn, one, nullables, presenceBytes, Mark, m
 use Rattle.row.specs.Leaps.{stopsFrom, tailFrom}
 use Rattle.row.proofs.Laws.{bit-zero, bit-next, bit-all, length-marks, mark-at, map-few}
 use Rattle.row.proofs.Leap.{stops-append, tail-append, stops-few, update-stops, update-stop}
-use Rattle.schema.specs.Schemas.{asColumn, Schema, schema, columnCount}
-use Rattle.schema.specs.Table.{startIn, countIn, schemaSlot, entryIn, schemaIn, schemasIn}
-use Rattle.schema.proofs.TableSays.{entries-length, schemas-in-length, schemas-in-at}
+use Rattle.tree.specs.Schemas.{asColumn, Schema, schema, columnCount}
+use Rattle.tree.specs.Table.{startIn, countIn, schemaSlot, entryIn, schemaIn, schemasIn}
+use Rattle.tree.proofs.TableSays.{entries-length, schemas-in-length, schemas-in-at}
 use Rattle.section.specs.Shapes.{formOf, firstIn, stopsIn, mapIn, tailIn, alwaysIn, SayAll, updateWords, slotColumns, Formed, Sound, Shaped, Added, Updated}
 use Rattle.section.specs.Ways.{dataStops}
 use Rattle.section.specs.Maps.{AllMasked, MasksAdded}

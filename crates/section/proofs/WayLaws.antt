@@ -25,7 +25,7 @@ use Rattle.row.specs.Leaps.{stopsFrom, tailFrom, anyColumn, carriedBit, leap}
 use Rattle.row.proofs.Laws.{bind-of, bit-next, bit-all, bit-below, bit-few, length-marks, mark-at, map-few}
 use Rattle.row.proofs.UpdateLaws.{length-numbered, number-at}
 use Rattle.row.proofs.Leap.{original-ends, update-ends, stops-few, update-stops}
-use Rattle.schema.specs.Table.{schemaSlot, startIn, countIn}
+use Rattle.tree.specs.Table.{schemaSlot, startIn, countIn}
 use Rattle.section.specs.Shapes.{firstIn, stopsIn, mapIn, tailIn, alwaysIn, alwaysOf, updateWords, slotColumns, Formed, Sound, Shaped}
 use Rattle.section.specs.Ways.{dataOn, dataStops, Leads, Led, Shut}
 use Rattle.section.specs.Maps.{Masked, AllMasked, Keeps}

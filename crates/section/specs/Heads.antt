@@ -6,11 +6,11 @@ use lib.ListN.{length, getD}
 use lib.Dec.{eqb}
 use Rattle.wire.specs.declared.error.Input.the-variants as input
 use Rattle.wire.specs.Read.{Bytes, Read, ok, bad, _>>=_, check, whole, refused}
-use Rattle.schema.specs.Schemas.{Schema, childNumber}
+use Rattle.tree.specs.Schemas.{Schema, childNumber}
 use Rattle.section.specs.declared.heads.Head.{Head}
 use Rattle.section.specs.declared.heads.Head.the-variants as head
 use Rattle.grammar.specs.Reader.{Token, parentToken, childToken, changeToken, deleteToken, doneToken, unknownToken, tokenOf, knownChild, follows, idAt}
-use Rattle.schema.specs.Table.{schemaSlot, idIn}
+use Rattle.tree.specs.Table.{schemaSlot, idIn}
 use Rattle.grammar.specs.Grammar.{Before, other, after}
 use Rattle.grammar.specs.Pending.{Pending, nothing, child-row}
 

@@ -7,7 +7,7 @@ use lib.ListN.{length}
 use Rattle.wire.specs.Read.{Bytes, ok}
 use Rattle.wire.specs.Output.{put}
 use Rattle.section.specs.declared.read.RowsRead.{RowsRead}
-use Rattle.schema.specs.Schemas.{Schema}
+use Rattle.tree.specs.Schemas.{Schema}
 use Rattle.grammar.specs.Grammar.{Row}
 use Rattle.grammar.specs.Reader.{section}
 use Rattle.section.specs.Table.{rowNumbers, rowCount, toldRows}

@@ -13,8 +13,8 @@ use Rattle.column.specs.Columns.{isStop}
 use Rattle.column.specs.Stops.{Stop, noStop, stopIn}
 use Rattle.row.specs.Presence.{one, nullables, presenceBytes, marks}
 use Rattle.row.specs.Leaps.{tailFrom}
-use Rattle.schema.specs.Schemas.{asColumn, columnCount, childNumber}
-use Rattle.schema.specs.Table.{schemaSlot, startIn, countIn, idIn, entriesIn, schemasIn}
+use Rattle.tree.specs.Schemas.{asColumn, columnCount, childNumber}
+use Rattle.tree.specs.Table.{schemaSlot, startIn, countIn, idIn, entriesIn, schemasIn}
 use Rattle.section.specs.Ways.{dataStops}
 
 -- A form of a schema: the word of its first stop, how many stops it has, the bytes of its presence map, the bytes behind the last stop, and 1

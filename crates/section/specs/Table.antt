@@ -8,7 +8,7 @@ use lib.Dec.{leb}
 use Rattle.wire.specs.declared.error.Input.the-variants as input
 use Rattle.wire.specs.Read.{Bytes, Read, ok, bad, _>>=_, check, about, sized, refused}
 use Rattle.wire.specs.Output.{put}
-use Rattle.schema.specs.Schemas.{Schema, readSchemas}
+use Rattle.tree.specs.Schemas.{Schema, readSchemas}
 use Rattle.section.specs.declared.read.RowsRead.{RowsRead}
 use Rattle.section.specs.declared.read.RowsRead.the-variants as read
 use Rattle.grammar.specs.Grammar.{Row}

@@ -1,9 +1,8 @@
 // The schema that a child id names.
 ghost use mathlib.Core.Path.{_≡_};
 ghost use Prim.Native.Nat.{_≤_};
-ghost use Rattle.schema.specs.Schemas.{childNumber};
-ghost use Rattle.schema.specs.Table.{idIn, schemasIn};
-ghost use Rattle.schema.specs.Questions.{or0};
+ghost use Rattle.tree.specs.Schemas.{childNumber, or0};
+ghost use Rattle.tree.specs.Table.{idIn, schemasIn};
 ghost use Rattle.section.specs.Shapes.{Sound};
 use wire::integer::wide;
 

@@ -4,7 +4,7 @@ ghost use Prim.Native.Nat.{_<_, _≤_};
 ghost use mathlib.Core.List.{[]};
 ghost use lib.ListN.{length};
 ghost use Rattle.wire.specs.Integers.{toldInt};
-ghost use Rattle.schema.specs.Table.{schemasIn};
+ghost use Rattle.tree.specs.Table.{schemasIn};
 ghost use Rattle.section.specs.Shapes.{Sound};
 ghost use Rattle.section.specs.Heads.{headAt, headBy, beforeIn, pairedId, toldHead};
 ghost use Rattle.grammar.specs.Grammar.{other};

@@ -4,7 +4,7 @@ ghost use Prim.Native.Nat.{_≤_};
 ghost use lib.ListN.{length};
 ghost use Rattle.wire.specs.Read.{ok};
 ghost use Rattle.wire.specs.Integers.{toldInt};
-ghost use Rattle.schema.specs.Table.{schemasIn};
+ghost use Rattle.tree.specs.Table.{schemasIn};
 ghost use Rattle.section.specs.Shapes.{Sound, Held, slotColumns};
 ghost use Rattle.section.specs.Ways.{dataEnd};
 ghost use Rattle.section.specs.Table.{rowsFitting, rowsRead, Listed};

@@ -3,7 +3,7 @@
 use mathlib.Core.Path.{_≡_, sym, ap, _∙_}
 use Rattle.wire.specs.declared.error.Error.{Error}
 use Rattle.wire.specs.Read.{Read, ok, refused}
-use Rattle.schema.specs.declared.file.Found.{Found}
+use Rattle.questions.specs.declared.file.Found.{Found}
 use Rattle.plan.specs.declared.plan.Plan.{Plan}
 use Rattle.adtg.specs.Plans.{toldPlan, planIn}
 use Rattle.adtg_c.specs.PlanAnswers.{planAnswer}

@@ -1,7 +1,8 @@
 -- The definition's steps, up to the first error.
 -- Assumes nothing.
 use mathlib.Core.Path.{sym, ap, _∙_}
-use Rattle.schema.specs.Heads.{chapterHead, toldNumber}
+use Rattle.schema.specs.Heads.{chapterHead}
+use Rattle.schema.specs.Told.{toldNumber}
 use borrow.Author.Needs.{needs}
 use Rattle.schema.proofs.head.chapter_head.Statement.{statement}
 use Rattle.schema.proofs.head.chapter_head.Tie as tie

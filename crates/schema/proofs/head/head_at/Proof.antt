@@ -1,7 +1,8 @@
 -- The definition's steps, up to the first error; the kind of the code is the column type's.
 -- Assumes nothing.
 use mathlib.Core.Path.{sym, ap, _∙_}
-use Rattle.schema.specs.Heads.{headAt, headBy, toldNumber}
+use Rattle.schema.specs.Heads.{headAt, headBy}
+use Rattle.schema.specs.Told.{toldNumber}
 use Rattle.schema.proofs.Heads.{unknown-code}
 use borrow.Author.Needs.{needs}
 use Rattle.schema.proofs.head.head_at.Statement.{statement}

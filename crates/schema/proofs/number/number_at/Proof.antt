@@ -1,8 +1,8 @@
 -- Each way out is the definition's, by the bytes that were looked at.
 -- Assumes nothing.
 use mathlib.Core.Path.{_≡_, sym, _∙_}
-use Rattle.schema.specs.Numbers.{secondAt, thirdAt, numberAt}
-use Rattle.schema.proofs.Laws.{number-short, number-one, number-more, second-short, second-zero, number-two, second-more, third-short, third-zero, third-long, number-three}
+use Rattle.tree.specs.Numbers.{secondAt, thirdAt, numberAt}
+use Rattle.tree.proofs.Laws.{number-short, number-one, number-more, second-short, second-zero, number-two, second-more, third-short, third-zero, third-long, number-three}
 use borrow.Author.Needs.{needs}
 use native.Mathlib.Omega.{arith}
 use Rattle.schema.proofs.number.number_at.Statement.{statement}

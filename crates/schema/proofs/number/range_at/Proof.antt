@@ -3,8 +3,8 @@
 use mathlib.Core.Path.{sym, ap, _∙_}
 use borrow.Author.Tests.{le-leb, lt-leb}
 use Rattle.wire.specs.Read.{check}
-use Rattle.schema.specs.Filling.{rangeAt}
-use Rattle.schema.specs.Heads.{toldNumber}
+use Rattle.tree.specs.Filling.{rangeAt}
+use Rattle.schema.specs.Told.{toldNumber}
 use borrow.Author.Needs.{needs}
 use Rattle.schema.proofs.number.range_at.Statement.{statement}
 use Rattle.schema.proofs.number.range_at.Tie as tie

@@ -4,15 +4,13 @@
 use Prim.Native.Nat.{ℕ, suc, _<_, _≤_, _+_, _-_}
 use mathlib.Core.Path.{_≡_, refl, sym, ap, _∙_}
 use mathlib.Core.List.{List}
-use mathlib.Core.Bool.{Bool, true, false}
 use lib.ListN.{length, set}
-use Rattle.wire.specs.Read.{Bytes, AreBytes, Read, ok, bad, refused, check}
-use Rattle.schema.specs.Numbers.{found}
-use Rattle.schema.specs.Table.{schemaSlot, packed, block}
-use Rattle.schema.specs.Filling.{Filled, filled, rangeAt, fillColumn, fillColumns, fillSchema}
-use Rattle.schema.specs.Heads.{Head, fieldHead, idHead, headAt, toldNumber, toldHead}
+use Rattle.wire.specs.Read.{Bytes, ok}
+use Rattle.tree.specs.Table.{packed, block}
+use Rattle.tree.specs.Filling.{filled, fillColumns, fillSchema}
+use Rattle.schema.specs.Heads.{fieldHead, idHead, headAt, toldHead}
+use Rattle.schema.specs.Told.{toldNumber, placed, Ready, Onward, toldPlace}
 use Rattle.schema.specs.declared.reader.PlaceRead.{PlaceRead}
-use Rattle.schema.specs.Told.{placed, Ready, Onward, Told, toldPlace}
 use Rattle.schema.proofs.Heads.{head-inside, head-small, range-inside}
 use Rattle.schema.proofs.Reading.{column-refused, column-filled, chapter-seen, chapter-new, moves-from, schema-deep, schema-refused, schema-over, loop-next, loop-refused, loop-ends}
 use Rattle.schema.proofs.UsualForms.{behind, run-on}

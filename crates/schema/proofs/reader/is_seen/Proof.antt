@@ -1,9 +1,9 @@
 -- The loop goes on with the ids that are left.
 -- Assumes nothing.
-use Prim.Native.Nat.{_≤_, _-_, _+_}
+use Prim.Native.Nat.{_≤_, _-_}
 use mathlib.Core.Path.{_≡_, refl, sym, _∙_}
-use Rattle.schema.specs.Tree.{member}
-use Rattle.schema.specs.Table.{idsFrom, idsIn}
+use Rattle.tree.specs.Tree.{member}
+use Rattle.tree.specs.Table.{idsFrom, idsIn}
 use Rattle.schema.proofs.Reading.{seen-end, seen-hit, seen-next}
 use borrow.Author.Needs.{needs}
 use Rattle.schema.proofs.reader.is_seen.Statement.{statement}

@@ -2,10 +2,9 @@
 -- Assumes nothing.
 use Prim.Native.Nat.{ℕ, _≤_, _-_}
 use mathlib.Core.Path.{_≡_, sym, ap, _∙_}
-use Rattle.schema.specs.Schemas.{numberFrom, childNumber}
-use Rattle.schema.specs.Table.{schemasIn}
-use Rattle.schema.specs.Questions.{or0}
-use Rattle.schema.proofs.Laws.{child-all, child-none, child-here, child-next}
+use Rattle.tree.specs.Schemas.{numberFrom, childNumber, or0}
+use Rattle.tree.specs.Table.{schemasIn}
+use Rattle.tree.proofs.Laws.{child-all, child-none, child-here, child-next}
 use borrow.Author.Needs.{needs}
 use Rattle.section.proofs.children.find_child.Statement.{statement}
 use Rattle.section.proofs.children.find_child.Tie as tie

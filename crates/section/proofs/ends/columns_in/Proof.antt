@@ -2,7 +2,7 @@
 -- Assumes nothing.
 use Prim.Native.Nat.{_-_}
 use Rattle.column.specs.declared.column.Column.{Column}
-use Rattle.schema.proofs.Layouts.{Filling, fill-start, fill-next, fill-end}
+use Rattle.tree.proofs.Layouts.{Filling, fill-start, fill-next, fill-end}
 use Rattle.section.proofs.Slots.{columns-held}
 use borrow.Author.Needs.{needs}
 use Rattle.section.proofs.ends.columns_in.Statement.{statement}

@@ -2,7 +2,7 @@
 -- Assumes nothing.
 use mathlib.Core.Path.{sym, ap, _∙_}
 use Rattle.wire.specs.Integers.{toldInt}
-use Rattle.schema.specs.Table.{schemasIn}
+use Rattle.tree.specs.Table.{schemasIn}
 use Rattle.section.specs.Heads.{beforeIn}
 use Rattle.section.proofs.HeadLaws.{change-refused, change-followed}
 use borrow.Author.Needs.{needs}

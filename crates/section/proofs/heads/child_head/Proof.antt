@@ -5,9 +5,8 @@ use mathlib.Core.Path.{sym, ap, _∙_}
 use mathlib.Core.List.{List}
 use Rattle.wire.specs.Read.{Bytes, ok}
 use Rattle.wire.specs.Integers.{toldInt}
-use Rattle.schema.specs.Schemas.{Schema, childNumber}
-use Rattle.schema.specs.Table.{schemasIn}
-use Rattle.schema.specs.Questions.{or0}
+use Rattle.tree.specs.Schemas.{Schema, childNumber, or0}
+use Rattle.tree.specs.Table.{schemasIn}
 use Rattle.grammar.specs.Grammar.{other}
 use Rattle.grammar.specs.Reader.{idAt}
 use Rattle.section.specs.Heads.{dataHead}

@@ -4,7 +4,7 @@ use Prim.Native.Nat.{_<_}
 use mathlib.Core.Path.{sym, _∙_}
 use native.Mathlib.Omega.{arith}
 use lib.ListN.{length}
-use Rattle.schema.specs.Table.{schemasIn}
+use Rattle.tree.specs.Table.{schemasIn}
 use Rattle.section.specs.Heads.{beforeIn}
 use Rattle.section.proofs.HeadLaws.{head-short, head-parent, head-child, head-change, head-delete, head-done, head-unknown}
 use borrow.Author.Needs.{needs}

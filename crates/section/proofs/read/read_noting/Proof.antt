@@ -11,8 +11,8 @@ use Rattle.wire.specs.Read.{ok}
 use Rattle.wire.proofs.Laws.{length-put}
 use Rattle.wire.specs.declared.error.Input.the-variants as input
 use Rattle.wire.specs.declared.error.ErrorKind.the-variants as error
-use Rattle.schema.specs.Table.{schemasIn}
-use Rattle.schema.proofs.TableSays.{schemas-in-length}
+use Rattle.tree.specs.Table.{schemasIn}
+use Rattle.tree.proofs.TableSays.{schemas-in-length}
 use Rattle.grammar.specs.Grammar.{Row}
 use Rattle.grammar.specs.Reader.{section}
 use Rattle.section.specs.Table.{toldRows}

@@ -2,7 +2,7 @@
 -- Assumes nothing.
 use mathlib.Core.Path.{ap, _∙_}
 use lib.ListN.{length}
-use Rattle.schema.proofs.Questions.{tabled-refused}
+use Rattle.schema.proofs.Tabled.{tabled-refused}
 use Rattle.section.proofs.Sound.{schemas-of, sound-of}
 use Rattle.section.proofs.Listing.{listed-error, length-after, file-large, section-large, file-refused, file-read}
 use borrow.Author.Needs.{needs}

@@ -1,0 +1,6 @@
+pub mod Coding
+pub mod Writing
+pub mod Listed
+pub mod Trips
+pub mod Forms
+pub mod WriterExamples

@@ -1,0 +1,17 @@
+pub mod NumberForms
+pub mod Lists
+pub mod Sound
+pub mod Complete
+pub mod Theorem
+pub mod Errors
+pub mod SchemaLists
+pub mod Children
+pub mod Packed
+pub mod Laid
+pub mod TableSays
+pub mod Offsets
+pub mod Laws
+pub mod Agreement
+pub mod Examples
+pub mod Prefix
+pub mod Filled
