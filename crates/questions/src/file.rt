@@ -9,9 +9,9 @@ ghost use Rattle.tree.specs.Schemas.{asColumn, childNumber, or0};
 ghost use Rattle.tree.specs.Table.{tableSize, entriesIn, schemasIn};
 ghost use Rattle.questions.specs.Questions.{countsOf, toldCounts, Opening, columnCountOf, toldSize, Columned, childOf, columnOf, toldColumn};
 use column::columns::Columns;
-use column::packed::unpack;
 use column::types::ColumnType;
 use schema::MOST_FILE_COLUMNS;
+use schema::columns::columns_in;
 use schema::reader::PlaceRead;
 use schema::reader::read_file;
 use wire::error::Error;
@@ -208,28 +208,6 @@ pub fn column_at(file: &[u8], number: usize, column: usize) -> ColumnRead
             }
         }
     }
-}
-
-// The columns in `count` slots of a table.
-fn columns_in(table: &[u64; 512], start: usize, count: usize) -> Columns
-    requires { ⌜ (count ≤ 64) × (start + count ≤ 256) ⌝ }
-    ensures { λ r. ⌜ r ≡ layout (map asColumn (entriesIn start count (now (table .entry)))) ⌝ }
-{
-    let mut columns = Columns {
-        count,
-        codes: [0u8; 64],
-        flags: [0u8; 64],
-        maxima: [0u16; 64],
-    };
-    let mut i = 0;
-    while i < count {
-        let column = unpack(table[start + i] as usize);
-        columns.codes[i] = column.code;
-        columns.flags[i] = column.flags;
-        columns.maxima[i] = column.maximum;
-        i += 1;
-    }
-    columns
 }
 
 // The columns of schema `number` by value.

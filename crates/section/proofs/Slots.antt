@@ -1,6 +1,6 @@
 -- Columns that stand in slots of a table: what code asks of column i is asked of slot `first` + i.
 -- Assumes nothing.
-use Prim.Native.Nat.{ℕ, _+_, _≤_, _<_}
+use Prim.Native.Nat.{ℕ, _+_, _≤_, _<_, min}
 use mathlib.Core.Path.{_≡_, refl, sym, ap, _∙_}
 use mathlib.Core.List.{List, map}
 use mathlib.Core.Bool.{Bool}
@@ -10,11 +10,12 @@ use Rattle.wire.specs.Bits.{mapBytes}
 use Rattle.column.specs.declared.column.Column.{Column}
 use Rattle.column.specs.declared.columns.Columns.{Columns}
 use Rattle.column.specs.Columns.{isNullable}
-use Rattle.column.specs.Layout.{mostColumns, padded, layout, columnsIn}
+use Rattle.column.specs.Layout.{mostColumns, layout, columnsIn}
 use Rattle.row.specs.Presence.{noColumn, one, bitOf}
 use Rattle.row.specs.Updates.{updateBytes}
 use Rattle.row.proofs.Laws.{bit-next, bit-few}
 use Rattle.row.proofs.Arrays.{columns-laid}
+use Rattle.tree.specs.Tree.{mostFileColumns}
 use Rattle.tree.specs.Schemas.{entry, asColumn}
 use Rattle.tree.specs.Table.{entryIn, entriesIn}
 use Rattle.tree.proofs.TableSays.{entries-length, entries-at}
@@ -58,13 +59,11 @@ module _ (slots : List ℕ) (first count : ℕ) where
       let z = bit-few (inSlots slots first count) (i + 1) in
       (omega (arith, e, x, y), omega (arith, e, x, y, z))
 
-  -- three arrays that hold the columns
+  -- the columns by value
   pub columns-held :
-      {codes flags maxima : List ℕ} → count ≤ 64 → codes ≡ padded mostColumns (map (λ (c : Column). c .code) (inSlots slots first count)) →
-      flags ≡ padded mostColumns (map (λ (c : Column). c .flags) (inSlots slots first count)) →
-      maxima ≡ padded mostColumns (map (λ (c : Column). c .maximum) (inSlots slots first count)) →
-      columnsIn (record { count = count; codes = codes; flags = flags; maxima = maxima }) ≡ inSlots slots first count
-  unfolding layout
-  columns-held {codes} {flags} {maxima} few c f m =
-      let l : record { count = count; codes = codes; flags = flags; maxima = maxima } ≡ layout (inSlots slots first count) = rw (length-slots, c, f, m) refl in
-      ap (λ (x : Columns). columnsIn x) l ∙ columns-laid (inSlots slots first count) (omega (arith, length-slots))
+      {columns : Columns} → first + count ≤ mostFileColumns → count ≤ mostColumns →
+      columns ≡ layout (map asColumn (entriesIn (min first mostFileColumns) (min count mostColumns) slots)) → columnsIn columns ≡ inSlots slots first count
+  columns-held {columns} inside few e =
+      let a : min first mostFileColumns ≡ first = omega (arith, inside) in
+      let b : min count mostColumns ≡ count = omega (arith, few) in
+      ap (λ (x : Columns). columnsIn x) (e ∙ rw (a, b) refl) ∙ columns-laid (inSlots slots first count) (omega (arith, length-slots, few))

@@ -15,3 +15,4 @@ pub mod Agreement
 pub mod Examples
 pub mod Prefix
 pub mod Filled
+pub mod Layouts
