@@ -23,9 +23,9 @@ use Rattle.questions.specs.Questions.{withSchema, Selected, selected, selectedO
 use Rattle.tree.proofs.SchemaLists.{EntriesRange, SchemaRange, SchemasRange, no-schema, a-schema, schemas-range}
 use Rattle.tree.proofs.Theorem.{file-of-iff}
 use Rattle.questions.proofs.Questions.{with-alone, answer-by}
-use Rattle.row.specs.Rows.{lookUp, lookUpRow}
-use Rattle.row.specs.Updates.{current, currentRow}
-use Rattle.row.proofs.Arrays.{columns-laid}
+use Rattle.walk.specs.Rows.{lookUp, lookUpRow}
+use Rattle.walk.specs.Updates.{current, currentRow}
+use Rattle.walk.proofs.Arrays.{columns-laid}
 use Rattle.adtg.specs.InSchema.{both, inSchema, columnsBeside, Beside}
 use Rattle.adtg.specs.Rows.{lookUpIn}
 use Rattle.adtg.specs.Updates.{sizesOf, currentIn}

@@ -14,7 +14,7 @@ use Rattle.tree.specs.Tree.{mostFlags, mostMaximum}
 use Rattle.tree.specs.Schemas.{Entry, asColumn}
 use Rattle.questions.specs.Questions.{alone, Selected, selectedOf}
 use Rattle.tree.proofs.SchemaLists.{EntryRange, EntriesRange, no-entry, an-entry}
-use Rattle.row.specs.Presence.{noColumn}
+use Rattle.walk.specs.Presence.{noColumn}
 use Rattle.adtg.specs.InSchema.{both, inSchema}
 use Rattle.plan.specs.declared.plan.Plan.{Plan}
 use Rattle.plan.specs.Plans.{planOf, Kept}

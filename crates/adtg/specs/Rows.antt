@@ -3,7 +3,7 @@
 use Prim.Native.Nat.{ℕ}
 use Rattle.wire.specs.declared.error.Input.the-variants as input
 use Rattle.wire.specs.Read.{Bytes, Read, about, sized}
-use Rattle.row.specs.Rows.{Answer, lookUp, fieldCount, rowEnd}
+use Rattle.walk.specs.Rows.{Answer, lookUp, fieldCount, rowEnd}
 use Rattle.adtg.specs.InSchema.{inSchema}
 
 -- column k of a row

@@ -3,7 +3,7 @@
 use Prim.Native.Nat.{ℕ}
 use Rattle.wire.specs.declared.error.Input.the-variants as input
 use Rattle.wire.specs.Read.{Bytes, Read, about, sized}
-use Rattle.row.specs.Updates.{UpdateAnswer, lookUpdate, updateEnd, Current, current}
+use Rattle.walk.specs.Updates.{UpdateAnswer, lookUpdate, updateEnd, Current, current}
 use Rattle.adtg.specs.InSchema.{both, inSchema}
 
 -- column k of update data

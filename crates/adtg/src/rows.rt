@@ -1,7 +1,7 @@
 // Questions about a row, with the schema file and the schema number that say its columns.
 ghost use mathlib.Core.Path.{_≡_};
 ghost use Rattle.wire.specs.Integers.{toldInt};
-ghost use Rattle.row.specs.Parts.{partOf};
+ghost use Rattle.walk.specs.Parts.{partOf};
 ghost use Rattle.row.specs.Told.{toldLookUp};
 ghost use Rattle.adtg.specs.Rows.{lookUpIn, fieldCountIn, rowEndIn};
 use crate::about;
@@ -31,7 +31,7 @@ pub fn field_part<'a>(file: &[u8], number: usize, row: &'a [u8], column: usize) 
     let found = read.found;
     match found {
         Found::Refused(_) => &row[0..0],
-        Found::Yes => row::current::field_part(read.columns, row, column),
+        Found::Yes => row::parts::field_part(read.columns, row, column),
     }
 }
 

@@ -1,8 +1,8 @@
 // Questions about update data and about a changed row, with the schema file and the schema number that say the columns.
 ghost use mathlib.Core.Path.{_≡_};
 ghost use Rattle.wire.specs.Integers.{toldInt};
-ghost use Rattle.row.specs.Parts.{currentPart};
-ghost use Rattle.row.specs.Told.{toldUpdate, toldCurrent};
+ghost use Rattle.walk.specs.Parts.{currentPart};
+ghost use Rattle.update.specs.Told.{toldUpdate, toldCurrent};
 ghost use Rattle.adtg.specs.InSchema.{Beside};
 ghost use Rattle.adtg.specs.Updates.{lookUpdateIn, updateEndIn, sizesOf, currentIn};
 use crate::about;
@@ -12,8 +12,8 @@ use crate::columns_beside;
 use crate::columns_for;
 use questions::file::ColumnsRead;
 use questions::file::Found;
-use row::current::CurrentValue;
-use row::updates::UpdateLookUp;
+use update::current::CurrentValue;
+use update::updates::UpdateLookUp;
 use wire::error::Input;
 use wire::integer::IntRead;
 
@@ -25,7 +25,7 @@ pub fn look_update(file: &[u8], number: usize, update: &[u8], column: usize) -> 
     let found = read.found;
     match found {
         Found::Refused(e) => UpdateLookUp::Refused(e),
-        Found::Yes => row::updates::look_update(read.columns, update, column),
+        Found::Yes => update::updates::look_update(read.columns, update, column),
     }
 }
 
@@ -38,7 +38,7 @@ pub fn update_end(file: &[u8], number: usize, update: &[u8], at: usize) -> IntRe
     match found {
         Found::Refused(e) => IntRead::Refused(e),
         Found::Yes => about(
-            row::updates::update_end(read.columns, update, at),
+            update::updates::update_end(read.columns, update, at),
             Input::Update,
         ),
     }
@@ -61,7 +61,7 @@ pub fn current(file: &[u8], number: usize, row: &[u8], update: &[u8], column: us
     let found = read.found;
     match found {
         Found::Refused(e) => CurrentValue::Refused(e),
-        Found::Yes => row::current::current(read.columns, row, update, column),
+        Found::Yes => update::current::current(read.columns, row, update, column),
     }
 }
 
@@ -79,6 +79,6 @@ pub fn current_part<'a>(
     let found = read.found;
     match found {
         Found::Refused(_) => &row[0..0],
-        Found::Yes => row::current::current_part(read.columns, row, update, column),
+        Found::Yes => update::current::current_part(read.columns, row, update, column),
     }
 }

@@ -5,7 +5,7 @@ use mathlib.Core.Path.{_≡_}
 use mathlib.Core.List.{List, [], _∷_}
 use Rattle.wire.specs.Errors.{inputNumber}
 use Rattle.wire.specs.Read.{Read, ok, bad}
-use Rattle.row.specs.Rows.{Answer, field, null, chapter}
+use Rattle.walk.specs.Rows.{Answer, field, null, chapter}
 use Rattle.plan.specs.declared.plan.Plan.{Plan}
 use Rattle.plan.specs.Plans.{FixedPlace, fixed, moving}
 use Rattle.adtg.specs.Plans.{planBeside, Checked}

@@ -4,8 +4,8 @@
 use Prim.Native.Nat.{ℕ}
 use mathlib.Core.List.{List, [], _∷_}
 use Rattle.column.specs.declared.field.Field.{Field}
-use Rattle.row.specs.Rows as R
-use Rattle.row.specs.Updates as U
+use Rattle.walk.specs.Rows as R
+use Rattle.walk.specs.Updates as U
 
 -- a field: its two ends and the prefixes read on the way
 abbrev pub fieldValues : Field → List ℕ

@@ -3,7 +3,8 @@ ghost use mathlib.Core.Path.{_≡_};
 ghost use lib.ListN.{length};
 ghost use Rattle.wire.specs.Integers.{toldInt};
 ghost use Rattle.wire.specs.Output.{sizeOf};
-ghost use Rattle.row.specs.Told.{toldLookUp, toldUpdate, toldCurrent};
+ghost use Rattle.row.specs.Told.{toldLookUp};
+ghost use Rattle.update.specs.Told.{toldUpdate, toldCurrent};
 ghost use Rattle.encode.specs.Writers.{outputWith};
 ghost use Rattle.adtg.specs.Rows.{lookUpIn, fieldCountIn, rowEndIn};
 ghost use Rattle.adtg.specs.Updates.{lookUpdateIn, updateEndIn, currentIn};
@@ -21,9 +22,9 @@ use adtg::updates::look_update;
 use adtg::updates::update_end;
 use adtg::writers::write_original;
 use adtg::writers::write_update;
-use row::current::CurrentValue;
 use row::rows::LookUp;
-use row::updates::UpdateLookUp;
+use update::current::CurrentValue;
+use update::updates::UpdateLookUp;
 use wire::integer::IntRead;
 
 // The answer of a call that gives one number.

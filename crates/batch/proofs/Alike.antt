@@ -5,7 +5,7 @@ use mathlib.Core.Path.{_≡_, refl}
 use mathlib.Core.List.{List, [], _∷_}
 use lib.ListN.{drop}
 use Rattle.wire.specs.Read.{Bytes, Read}
-use Rattle.row.specs.Rows.{Answer}
+use Rattle.walk.specs.Rows.{Answer}
 use Rattle.grammar.specs.Grammar.{Row}
 use Rattle.batch.specs.Spans.{rowsOf, startIn, spanIn, spansIn, spansBy}
 

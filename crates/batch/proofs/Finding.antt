@@ -15,7 +15,7 @@ use Rattle.wire.specs.Read.{Bytes, Read, ok, bad, check, about, limit, refused}
 use Rattle.wire.specs.Output.{put}
 use Rattle.wire.proofs.Laws.{sized-over, sized-within}
 use Rattle.wire.proofs.Pieces.{bad-ok}
-use Rattle.row.specs.Rows.{Answer}
+use Rattle.walk.specs.Rows.{Answer}
 use Rattle.batch.specs.declared.find.SpansRead.{SpansRead}
 use Rattle.batch.specs.declared.find.SpansRead.the-variants as read
 use Rattle.batch.specs.Spans.{rowsOf, Span, spansIn, spansBy, spansAfter, Batched}

@@ -13,8 +13,8 @@ use Rattle.wire.specs.declared.error.Input.the-variants as input
 use Rattle.wire.specs.Errors.{codeOf, inputNumber}
 use Rattle.wire.specs.Read.{Bytes, Read, ok, bad, _>>=_, pick, refused}
 use Rattle.column.specs.declared.field.Field.{Field}
-use Rattle.row.specs.Rows.{Answer, field, null, chapter}
-use Rattle.row.proofs.Arrays.{rest}
+use Rattle.walk.specs.Rows.{Answer, field, null, chapter}
+use Rattle.walk.proofs.Arrays.{rest}
 use Rattle.plan.specs.declared.plan.Plan.{Plan}
 use Rattle.plan.specs.Plans.{plannedRow}
 use Rattle.plan.proofs.Inside.{row-inside}

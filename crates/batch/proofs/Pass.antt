@@ -11,7 +11,7 @@ use Rattle.wire.specs.declared.error.Error.{Error}
 use Rattle.wire.specs.Read.{Bytes, Read, ok, bad, _>>=_, refused}
 use Rattle.wire.specs.Output.{put}
 use Rattle.wire.proofs.Laws.{length-put}
-use Rattle.row.specs.Rows.{Answer}
+use Rattle.walk.specs.Rows.{Answer}
 use Rattle.batch.specs.declared.find.SpansRead.the-variants as read
 use Rattle.batch.specs.Spans.{rowAt, rowsFrom, rowsOf, ownerOf, Span, spanNumbers, spanIn, spansIn}
 use Rattle.batch.specs.Scan.{laidFrom, pass, passed, Scanned}

@@ -19,11 +19,11 @@ use Rattle.column.specs.Fields.{bytesAt, variableAt}
 use Rattle.column.specs.Packed.{unpackedColumn}
 use Rattle.column.specs.Stops.{Stop, prefixOf, there, lengthAt, spanAt, spanError}
 use Rattle.column.proofs.Laws.{rule-none, rule-refused}
-use Rattle.row.specs.Presence.{one, present}
-use Rattle.row.specs.Rows.{Place}
-use Rattle.row.specs.Rows as rows
-use Rattle.row.specs.Leaps.{passed, leaps}
-use Rattle.row.proofs.Leap.{error-long, error-plain}
+use Rattle.walk.specs.Presence.{one, present}
+use Rattle.walk.specs.Rows.{Place}
+use Rattle.walk.specs.Rows as rows
+use Rattle.walk.specs.Leaps.{passed, leaps}
+use Rattle.walk.proofs.Leap.{error-long, error-plain}
 use Rattle.grammar.proofs.RowErrors.{OfError, an-error, of-bind, of-check, of-other, RowErrorAt}
 use Rattle.grammar.proofs.RowErrors as row
 use Rattle.plan.specs.declared.plan.Plan.{Plan}

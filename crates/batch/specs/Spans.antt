@@ -11,7 +11,7 @@ use Rattle.wire.specs.declared.error.Input.the-variants as input
 use Rattle.wire.specs.Errors.{inputNumber}
 use Rattle.wire.specs.Read.{Bytes, Read, ok, bad, _>>=_, pick, check, about, sized, refused}
 use Rattle.wire.specs.Output.{put}
-use Rattle.row.specs.Rows.{Answer, field, null, chapter}
+use Rattle.walk.specs.Rows.{Answer, field, null, chapter}
 use Rattle.plan.specs.declared.plan.Plan.{Plan}
 use Rattle.plan.specs.Plans.{plannedRow}
 use Rattle.grammar.specs.Grammar.{Row, entry}

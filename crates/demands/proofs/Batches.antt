@@ -30,9 +30,9 @@ use Rattle.tree.proofs.SchemaLists.{SchemasRange, no-schema, a-schema, schemas-
 use Rattle.tree.proofs.Theorem.{file-of-iff}
 use Rattle.questions.proofs.Questions.{with-alone}
 use Rattle.questions.specs.Questions.{withSchema}
-use Rattle.row.specs.Presence.{nullables, presenceBytes, marks, bitOf, present, chapterPresent, clear}
-use Rattle.row.specs.Rows.{Answer, field, null, chapter, step, walk, arrive, opened, fieldOf, columnOf, known, lookUp}
-use Rattle.row.specs.Rows as row
+use Rattle.walk.specs.Presence.{nullables, presenceBytes, marks, bitOf, present, chapterPresent, clear}
+use Rattle.walk.specs.Rows.{Answer, field, null, chapter, step, walk, arrive, opened, fieldOf, columnOf, known, lookUp}
+use Rattle.walk.specs.Rows as row
 use Rattle.plan.specs.declared.plan.Plan.{Plan}
 use Rattle.plan.specs.Plans.{plannedColumn, plannedGap, noStops, plannedRow}
 use Rattle.plan.proofs.Inside.{row-inside, row-placed}

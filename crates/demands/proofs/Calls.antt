@@ -17,8 +17,8 @@ use Rattle.header.specs.Options.{optionsOf, optionsWritten}
 use Rattle.questions.specs.Questions.{countsOf, columnCountOf, columnOf, childOf}
 use Rattle.numbers.specs.Writer.{coded, numbersListed, fileWritten}
 use Rattle.section.specs.Table.{rowsRead}
-use Rattle.row.specs.Rows.{lookUp, fieldCount, rowEnd}
-use Rattle.row.specs.Updates.{lookUpdate, updateEnd, current}
+use Rattle.walk.specs.Rows.{lookUp, fieldCount, rowEnd}
+use Rattle.walk.specs.Updates.{lookUpdate, updateEnd, current}
 use Rattle.encode.specs.Writers.{writeOriginal, writeUpdate}
 use Rattle.plan.specs.declared.plan.Plan.{Plan}
 use Rattle.plan.specs.Plans.{planOf, plannedCount, plannedRow, fixedPlace}

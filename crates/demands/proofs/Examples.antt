@@ -14,9 +14,9 @@ use Rattle.tree.specs.Reader.{readNumber, readRange, readFixed, readVariable, r
 use Rattle.tree.specs.Schemas.{ownColumns, nestedSchemas, schemasOf, readSchemas, schemaAt, columnsOf, numberFrom, childNumber}
 use Rattle.questions.specs.Questions.{withSchema}
 use Rattle.header.specs.Header.{headerFields, headerOf}
-use Rattle.row.specs.Presence.{nullables, presenceBytes, marks, bitOf, present, chapterPresent, clear}
-use Rattle.row.specs.Rows.{step, walk, arrive, opened, walked, fieldOf, columnOf, known, lookUp, rowEnd}
-use Rattle.row.specs.Updates.{numbered, updateBytes, chapterMarked, forceBroken, carried, carriedIn, updateOpened, updateWalked, updateEnd}
+use Rattle.walk.specs.Presence.{nullables, presenceBytes, marks, bitOf, present, chapterPresent, clear}
+use Rattle.walk.specs.Rows.{step, walk, arrive, opened, walked, fieldOf, columnOf, known, lookUp, rowEnd}
+use Rattle.walk.specs.Updates.{numbered, updateBytes, chapterMarked, forceBroken, carried, carriedIn, updateOpened, updateWalked, updateEnd}
 use Rattle.grammar.specs.Grammar.{childKind, updateStart, rows}
 use Rattle.grammar.specs.Reader.{tokenOf, knownChild, element, scan, elements, section}
 use Rattle.section.specs.Table.{rowsFitting, rowsRead}

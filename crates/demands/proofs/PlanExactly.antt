@@ -22,10 +22,10 @@ use Rattle.column.specs.Fields.{bytesAt, variableAt}
 use Rattle.column.specs.Packed.{unpackedColumn}
 use Rattle.column.specs.Stops.{Stop, there, lengthAt, spanError}
 use Rattle.column.proofs.Laws.{rule-refused, field-variable, bytes-short, bytes-fit}
-use Rattle.row.specs.Presence.{Mark, present}
-use Rattle.row.specs.Rows.{Place, place, reached, Answer, field, null, chapter}
-use Rattle.row.specs.Leaps.{passed, leaps}
-use Rattle.row.proofs.Leap.{error-long, error-plain, passed-none, passed-over, passed-bad}
+use Rattle.walk.specs.Presence.{Mark, present}
+use Rattle.walk.specs.Rows.{Place, place, reached, Answer, field, null, chapter}
+use Rattle.walk.specs.Leaps.{passed, leaps}
+use Rattle.walk.proofs.Leap.{error-long, error-plain, passed-none, passed-over, passed-bad}
 use Rattle.plan.specs.declared.plan.Plan.{Plan}
 use Rattle.plan.specs.Packed.{widthIn}
 use Rattle.plan.specs.Plans.{plannedWord, plannedColumn, plannedMark, plannedGap, plannedCount, plannedMap, plannedChapters, fieldIn, jumped, landed, unsetFrom, plannedKnown, plannedOpen, plannedAnswer, plannedLookUp, plannedRow, fixedPlace}

@@ -15,8 +15,8 @@ use Rattle.wire.proofs.Pieces.{ok-ok}
 use Rattle.column.specs.declared.column.Column.{Column}
 use Rattle.column.specs.Types.{types, kindIn, kindOf}
 use Rattle.column.specs.Columns.{isNullable}
-use Rattle.row.specs.Presence.{noColumn}
-use Rattle.row.specs.Rows.{lookUp, lookUpRow}
+use Rattle.walk.specs.Presence.{noColumn}
+use Rattle.walk.specs.Rows.{lookUp, lookUpRow}
 use Rattle.tree.specs.Numbers.{thirdGroup, secondGroup, numberIn}
 use Rattle.tree.specs.Tree.{member}
 use Rattle.tree.specs.Reader.{readNumber, readRange, readFixed, readVariable, readChapter, readKind, readColumn, readColumns, readSchema, ended, readFile, fileOf}

@@ -24,13 +24,13 @@ use Rattle.column.specs.declared.types.Kind.the-variants.{Fixed, Variable, Wide
 use Rattle.column.specs.Columns.{kind, width, isVariable, isChapter, prefixSize, lengthError}
 use Rattle.column.specs.Fields.{bytesAt, variableAt, fieldAt}
 use Rattle.column.proofs.Laws.{bytes-short, variable-short, variable-long, variable-bytes, field-variable, field-fixed, length-free, plain-allowed, wide-allowed, length-refused}
-use Rattle.row.specs.Presence.{noColumn, nullables, presenceBytes, Mark, noMark, marks, bitOf, markOf, present, chapterPresent, clear}
-use Rattle.row.specs.Rows.{Place, place, past, reached, step, walk, arrive, opened, walked, rowEnd, field, null, chapter, fieldOf, columnOf, known, lookUp, always, setBits, fieldCount}
-use Rattle.row.specs.Updates.{numbered, updateBytes, chapterMarked, forceBroken, carriedIn, updateOpened, updateWalked, updateEnd, UpdateAnswer, updateColumn, lookUpdate, updated, forced, original, fromRow, currentBy, current}
-use Rattle.row.proofs.Laws.{bind-bad, bind-of, length-marks, mark-at, present-chapter, step-absent, step-field, step-refused}
-use Rattle.row.proofs.Found.{Stepped, stayed, moved, step-told, known-ok}
-use Rattle.row.proofs.UpdateLaws.{length-numbered, number-at, marked-chapter, look-update-chapter, look-update-unchanged, look-update-null, look-update-found}
-use Rattle.row.proofs.UpdateFound.{update-end-told, field-there, examined-looks-up}
+use Rattle.walk.specs.Presence.{noColumn, nullables, presenceBytes, Mark, noMark, marks, bitOf, markOf, present, chapterPresent, clear}
+use Rattle.walk.specs.Rows.{Place, place, past, reached, step, walk, arrive, opened, walked, rowEnd, field, null, chapter, fieldOf, columnOf, known, lookUp, always, setBits, fieldCount}
+use Rattle.walk.specs.Updates.{numbered, updateBytes, chapterMarked, forceBroken, carriedIn, updateOpened, updateWalked, updateEnd, UpdateAnswer, updateColumn, lookUpdate, updated, forced, original, fromRow, currentBy, current}
+use Rattle.walk.proofs.Laws.{bind-bad, bind-of, length-marks, mark-at, present-chapter, step-absent, step-field, step-refused}
+use Rattle.walk.proofs.Found.{Stepped, stayed, moved, step-told, known-ok}
+use Rattle.walk.proofs.UpdateLaws.{length-numbered, number-at, marked-chapter, look-update-chapter, look-update-unchanged, look-update-null, look-update-found}
+use Rattle.walk.proofs.UpdateFound.{update-end-told, field-there, examined-looks-up}
 use Rattle.encode.proofs.Walks.{clear-at}
 use Rattle.grammar.proofs.RowErrors.{OfError, no-error, an-error, of-bind, of-check, of-other, of-told, of-opened, of-row, of-update}
 use Rattle.demands.specs.Checks.{Refusals, Never, _then_, Where, Exactly, Faults, Of, of, lent, Sizes, Short, short, Missing, missing}

@@ -42,12 +42,12 @@ use Rattle.tree.specs.Schemas.{asColumn, ownColumns, nestedSchemas, schemasOf, 
 use Rattle.questions.specs.Questions.{withSchema, alone, Selected, selectedOf}
 use Rattle.numbers.specs.Writer.{codedNumber, coded, inRange, ofNumbers, fileWritten, numbersListed}
 use Rattle.numbers.proofs.Trips as schema
-use Rattle.row.specs.Rows.{Answer, lookUp, rowEnd}
-use Rattle.row.specs.Rows as rows
-use Rattle.row.specs.Updates.{UpdateAnswer, lookUpdate, updateEnd}
-use Rattle.row.specs.Updates as updates
-use Rattle.row.proofs.Found.{field-inside}
-use Rattle.row.proofs.UpdateFound.{update-field-inside}
+use Rattle.walk.specs.Rows.{Answer, lookUp, rowEnd}
+use Rattle.walk.specs.Rows as rows
+use Rattle.walk.specs.Updates.{UpdateAnswer, lookUpdate, updateEnd}
+use Rattle.walk.specs.Updates as updates
+use Rattle.walk.proofs.Found.{field-inside}
+use Rattle.walk.proofs.UpdateFound.{update-field-inside}
 use Rattle.encode.specs.Entries.{null, givenAt, givensFrom, isEntry, areEntries, entryOf, entriesOf}
 use Rattle.encode.specs.Encoding.{byteOf, packIn, pack, fieldBytes, fieldsOf, presenceBits, originalBytes, updateBits, forceBits, updateData}
 use Rattle.encode.specs.Writers.{lengthStands, inOriginal, inUpdate, entriesStand, entriesIn, writing, writeOriginal, writeUpdate, outputWith}

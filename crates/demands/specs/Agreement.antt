@@ -6,7 +6,7 @@ use mathlib.Core.Path.{_≡_}
 use lib.ListN.{length, getD}
 use Rattle.column.specs.declared.column.Column.{Column}
 use Rattle.column.specs.Columns.{isNullable}
-use Rattle.row.specs.Presence.{noColumn}
+use Rattle.walk.specs.Presence.{noColumn}
 
 -- they agree in column count and, place by place, in type, nullability and maximum length
 pub record Agree (cs ds : List Column) : Type 0 where

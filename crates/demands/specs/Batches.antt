@@ -7,7 +7,7 @@ use mathlib.Core.Option.{some}
 use lib.ListN.{length}
 use lib.Dec.{eqb}
 use Rattle.wire.specs.Read.{Bytes, Read, ok, pick}
-use Rattle.row.specs.Rows.{Answer}
+use Rattle.walk.specs.Rows.{Answer}
 use Rattle.tree.specs.Schemas.{Schema, childNumber}
 use Rattle.grammar.specs.Grammar.{Row}
 use Rattle.batch.specs.Spans.{parents, ownerOf, startIn, Span, span, nullMark, chapterMark, spanIn}

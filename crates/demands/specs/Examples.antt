@@ -6,7 +6,7 @@ use Rattle.wire.specs.Read.{Bytes, Read, ok, bad}
 use Rattle.header.specs.declared.header.Header.{Header}
 use Rattle.header.specs.Header.{headerOf}
 use Rattle.tree.specs.Schemas.{Entry, entry, Schema, schema, readSchemas}
-use Rattle.row.specs.Rows.{Answer, field, null, chapter}
+use Rattle.walk.specs.Rows.{Answer, field, null, chapter}
 use Rattle.grammar.specs.Grammar.{Row}
 use Rattle.section.specs.Table.{rowNumbers, rowsRead}
 use Rattle.adtg.specs.Rows.{lookUpIn}

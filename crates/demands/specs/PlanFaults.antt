@@ -14,9 +14,9 @@ use Rattle.wire.specs.Maps.{topBit}
 use Rattle.column.specs.Columns.{isVariable}
 use Rattle.column.specs.Packed.{unpackedColumn}
 use Rattle.column.specs.Stops.{Stop, there, spanError}
-use Rattle.row.specs.Presence.{present}
-use Rattle.row.specs.Rows.{Place, place}
-use Rattle.row.specs.Leaps.{passed, leaps}
+use Rattle.walk.specs.Presence.{present}
+use Rattle.walk.specs.Rows.{Place, place}
+use Rattle.walk.specs.Leaps.{passed, leaps}
 use Rattle.plan.specs.declared.plan.Plan.{Plan}
 use Rattle.plan.specs.Packed.{widthIn}
 use Rattle.plan.specs.Plans.{plannedWord, plannedMark, plannedGap, plannedCount, plannedMap, plannedChapters, stopsTo, byBit}

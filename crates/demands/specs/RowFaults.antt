@@ -15,8 +15,8 @@ use Rattle.column.specs.declared.field.Field.{Field}
 use Rattle.column.specs.declared.types.Kind.the-variants.{Variable, Wide}
 use Rattle.column.specs.Columns.{kind, width, isVariable, prefixSize}
 use Rattle.column.specs.Fields.{fieldAt}
-use Rattle.row.specs.Presence.{Mark, presenceBytes, marks, markOf, present, chapterPresent}
-use Rattle.row.specs.Updates.{numbered, updateBytes, chapterMarked, forceBroken, carriedIn}
+use Rattle.walk.specs.Presence.{Mark, presenceBytes, marks, markOf, present, chapterPresent}
+use Rattle.walk.specs.Updates.{numbered, updateBytes, chapterMarked, forceBroken, carriedIn}
 use Rattle.demands.specs.Checks.{Refusals, _then_, Where, Of, Short, Missing}
 
 -- the first of the columns whose bit breaks a rule

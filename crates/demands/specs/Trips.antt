@@ -10,9 +10,9 @@ use Rattle.column.specs.declared.column.Column.{Column}
 use Rattle.header.specs.Header.{headerWritten}
 use Rattle.header.specs.Options.{optionsWritten}
 use Rattle.numbers.specs.Writer.{fileWritten, numbersListed}
-use Rattle.row.specs.Presence.{noColumn}
-use Rattle.row.specs.Rows.{Answer}
-use Rattle.row.specs.Updates.{UpdateAnswer}
+use Rattle.walk.specs.Presence.{noColumn}
+use Rattle.walk.specs.Rows.{Answer}
+use Rattle.walk.specs.Updates.{UpdateAnswer}
 use Rattle.encode.specs.Entries.{givenAt, entryOf}
 use Rattle.encode.specs.Writers.{outputWith}
 use Rattle.encode.specs.Trips.{Says, SaysUpdate, numbersOf, numbersOfUpdate, numbersFrom, ReservedZero, UpdateReservedZero}

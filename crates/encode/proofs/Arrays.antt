@@ -15,7 +15,7 @@ use Rattle.wire.specs.Output.{put}
 use Rattle.wire.proofs.Laws.{put-put, length-put}
 use Rattle.column.specs.declared.column.Column.{Column}
 use Rattle.column.specs.Layout.{mostColumns, padded, columnIn, columnsFrom}
-use Rattle.row.specs.Presence.{one}
+use Rattle.walk.specs.Presence.{one}
 use Rattle.encode.specs.declared.writers.Map.{Map}
 use Rattle.encode.specs.declared.writers.Map.the-variants as maps
 use Rattle.encode.specs.Entries.{Entry, given, givenAt, givensFrom, isEntry, areEntries, entryOf, entriesOf}

@@ -12,7 +12,7 @@ use borrow.Author.Tests.{eqb-true, eqb-false, eq-eqb, ne-eqb, lt-ltb, le-ltb}
 use Rattle.wire.specs.Read.{Bytes, pick, cut}
 use Rattle.wire.specs.Bits.{mapBytes}
 use Rattle.column.specs.Layout.{mostColumns, padded}
-use Rattle.row.specs.Presence.{one}
+use Rattle.walk.specs.Presence.{one}
 use Rattle.encode.specs.declared.writers.Map.the-variants as maps
 use Rattle.encode.specs.Entries.{value, null, unchanged, given, entryOf}
 use Rattle.encode.specs.Encoding.{byteOf, packIn, pack}

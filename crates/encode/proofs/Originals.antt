@@ -13,11 +13,11 @@ use Rattle.wire.proofs.Pieces.{Piece, piece-start, piece-from, piece-to, cut-pi
 use Rattle.column.specs.declared.column.Column.{Column}
 use Rattle.column.specs.Columns.{isChapter, isNullable}
 use Rattle.column.specs.Fields.{fieldAt}
-use Rattle.row.specs.Presence.{noColumn, one, nullables, presenceBytes, Mark, noMark, marks, bitOf, markOf, present, chapterPresent}
-use Rattle.row.specs.Rows.{place, walk, opened, walked, rowEnd, lookUp}
-use Rattle.row.proofs.Laws.{length-marks, mark-at, bit-nullable, bit-below, present-chapter, present-bit, present-always, chapter-bit, opened-well, end-reached, look-up-chapter, look-up-null, look-up-found}
-use Rattle.row.proofs.Found.{opened-ok}
-use Rattle.row.proofs.Later.{row-end-told}
+use Rattle.walk.specs.Presence.{noColumn, one, nullables, presenceBytes, Mark, noMark, marks, bitOf, markOf, present, chapterPresent}
+use Rattle.walk.specs.Rows.{place, walk, opened, walked, rowEnd, lookUp}
+use Rattle.walk.proofs.Laws.{length-marks, mark-at, bit-nullable, bit-below, present-chapter, present-bit, present-always, chapter-bit, opened-well, end-reached, look-up-chapter, look-up-null, look-up-found}
+use Rattle.walk.proofs.Found.{opened-ok}
+use Rattle.walk.proofs.Later.{row-end-told}
 use Rattle.encode.specs.Entries.{Entry, value, null, unchanged}
 use Rattle.encode.specs.Encoding.{pack, fieldsOf, isValue, presenceBits, originalBytes}
 use Rattle.encode.specs.Writers.{inOriginal, entriesStand}

@@ -13,8 +13,8 @@ use borrow.Author.Tests.{ltb-true, ltb-false}
 use Rattle.wire.specs.Read.{Bytes, AreBytes, cut}
 use Rattle.wire.specs.Bits.{bitAt, bitSet, mapBytes}
 use Rattle.wire.proofs.Pieces.{Piece, piece, cut-length, bytes-drop, bytes-take}
-use Rattle.row.specs.Presence.{one}
-use Rattle.row.proofs.BitCounts.{half-again, bit-one}
+use Rattle.walk.specs.Presence.{one}
+use Rattle.walk.proofs.BitCounts.{half-again, bit-one}
 use Rattle.encode.specs.Encoding.{byteOf, packIn, pack}
 
 -- A byte of eight bits.

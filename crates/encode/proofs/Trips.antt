@@ -7,11 +7,11 @@ use mathlib.Core.List.{List, _++_}
 use lib.ListN.{length, take, getD}
 use Rattle.wire.specs.Read.{Bytes, AreBytes, Read, ok, bad}
 use Rattle.column.specs.declared.column.Column.{Column}
-use Rattle.row.specs.Presence.{noColumn}
-use Rattle.row.specs.Rows as rows
-use Rattle.row.specs.Rows.{rowEnd, lookUp}
-use Rattle.row.specs.Updates as updates
-use Rattle.row.specs.Updates.{updateEnd, lookUpdate}
+use Rattle.walk.specs.Presence.{noColumn}
+use Rattle.walk.specs.Rows as rows
+use Rattle.walk.specs.Rows.{rowEnd, lookUp}
+use Rattle.walk.specs.Updates as updates
+use Rattle.walk.specs.Updates.{updateEnd, lookUpdate}
 use Rattle.encode.specs.Entries.{Entry, null, isEntry, entryOf}
 use Rattle.encode.specs.Encoding.{originalBytes, updateData}
 use Rattle.encode.specs.Writers.{inOriginal, inUpdate, entriesIn, writeOriginal, writeUpdate}

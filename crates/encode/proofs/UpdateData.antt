@@ -13,11 +13,11 @@ use Rattle.wire.proofs.Pieces.{Piece, piece-start, piece-from, piece-to, cut-pi
 use Rattle.column.specs.declared.column.Column.{Column}
 use Rattle.column.specs.Columns.{isChapter, isNullable}
 use Rattle.column.specs.Fields.{fieldAt}
-use Rattle.row.specs.Presence.{noColumn, Mark, mark, noMark}
-use Rattle.row.specs.Rows.{place, walk}
-use Rattle.row.specs.Updates.{numbered, updateBytes, chapterMarked, forceBroken, carried, carriedIn, updateOpened, updateWalked, updateEnd, lookUpdate}
-use Rattle.row.proofs.UpdateLaws.{length-numbered, number-at, marked-chapter, force-alone, force-plain, carried-not, carried-forced, carried-field, update-well, update-end-reached, look-update-chapter, look-update-unchanged, look-update-null, look-update-found}
-use Rattle.row.proofs.UpdateFound.{update-end-told}
+use Rattle.walk.specs.Presence.{noColumn, Mark, mark, noMark}
+use Rattle.walk.specs.Rows.{place, walk}
+use Rattle.walk.specs.Updates.{numbered, updateBytes, chapterMarked, forceBroken, carried, carriedIn, updateOpened, updateWalked, updateEnd, lookUpdate}
+use Rattle.walk.proofs.UpdateLaws.{length-numbered, number-at, marked-chapter, force-alone, force-plain, carried-not, carried-forced, carried-field, update-well, update-end-reached, look-update-chapter, look-update-unchanged, look-update-null, look-update-found}
+use Rattle.walk.proofs.UpdateFound.{update-end-told}
 use Rattle.encode.specs.Entries.{Entry, value, null, unchanged}
 use Rattle.encode.specs.Encoding.{pack, fieldsOf, isValue, isChange, isForced, updateBits, forceBits, updateData}
 use Rattle.encode.specs.Writers.{inUpdate, entriesStand}

@@ -13,11 +13,11 @@ use Rattle.column.specs.declared.column.Column.{Column}
 use Rattle.column.specs.declared.field.Field.{Field}
 use Rattle.column.specs.Columns.{isChapter}
 use Rattle.column.specs.Fields.{fieldAt}
-use Rattle.row.specs.Presence.{noColumn, Mark, noMark, clear}
-use Rattle.row.specs.Rows.{Place, place, past, step, walk}
-use Rattle.row.proofs.Laws.{bind-of, step-absent, step-field}
-use Rattle.row.proofs.Found.{Stepped, stayed, moved, step-told}
-use Rattle.row.proofs.Counting.{clear-first}
+use Rattle.walk.specs.Presence.{noColumn, Mark, noMark, clear}
+use Rattle.walk.specs.Rows.{Place, place, past, step, walk}
+use Rattle.walk.proofs.Laws.{bind-of, step-absent, step-field}
+use Rattle.walk.proofs.Found.{Stepped, stayed, moved, step-told}
+use Rattle.walk.proofs.Counting.{clear-first}
 use Rattle.encode.specs.Entries.{Entry, value, null, unchanged}
 use Rattle.encode.specs.Encoding.{fieldBytes, entryBytes, fieldsOf, isValue}
 use Rattle.encode.specs.Writers.{entriesStand}

@@ -9,7 +9,7 @@ use Rattle.wire.specs.Bits.{mapBytes}
 use Rattle.wire.specs.Integers.{intBytes}
 use Rattle.column.specs.declared.column.Column.{Column}
 use Rattle.column.specs.Columns.{isNullable, prefixBytes}
-use Rattle.row.specs.Presence.{one}
+use Rattle.walk.specs.Presence.{one}
 use Rattle.encode.specs.Entries.{Entry, value, null, unchanged}
 
 -- eight bits as a byte, the first as its top bit; a bit that is not there is 0

@@ -13,7 +13,7 @@ use Rattle.wire.specs.Read.{Bytes, Read, ok, _>>=_, pick, about}
 use Rattle.column.specs.declared.column.Column.{Column}
 use Rattle.column.specs.Columns.{isNullable}
 use Rattle.column.specs.Layout.{mostColumns, padded}
-use Rattle.row.specs.Presence.{one}
+use Rattle.walk.specs.Presence.{one}
 use Rattle.encode.specs.declared.writers.Map.{Map}
 use Rattle.encode.specs.declared.writers.Map.the-variants as maps
 use Rattle.encode.specs.Entries.{Entry}

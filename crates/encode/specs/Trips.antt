@@ -10,9 +10,9 @@ use Rattle.wire.specs.Bits.{bitSet}
 use Rattle.column.specs.declared.column.Column.{Column}
 use Rattle.column.specs.Columns.{isChapter}
 use Rattle.column.specs.Fields as fields
-use Rattle.row.specs.Presence.{nullables, presenceBytes}
-use Rattle.row.specs.Rows as rows
-use Rattle.row.specs.Updates as updates
+use Rattle.walk.specs.Presence.{nullables, presenceBytes}
+use Rattle.walk.specs.Rows as rows
+use Rattle.walk.specs.Updates as updates
 use Rattle.encode.specs.Entries.{Entry, value, null, unchanged, nullKind, valueKind, unchangedKind}
 
 -- An answer of a look-up in a row says what an entry says: a field in the row that holds the value's bytes, null, a chapter.

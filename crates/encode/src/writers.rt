@@ -8,7 +8,7 @@ ghost use Rattle.wire.specs.Integers.{toldInt, intBytes};
 ghost use Rattle.wire.specs.Output.{put};
 ghost use Rattle.column.specs.Columns.{prefixBytes};
 ghost use Rattle.column.specs.Layout.{columnIn, columnsFrom, columnsIn};
-ghost use Rattle.row.specs.Presence.{one};
+ghost use Rattle.walk.specs.Presence.{one};
 ghost use Rattle.encode.specs.Entries.{null, given, givenAt, givensFrom, isEntry, areEntries, entryOf};
 ghost use Rattle.encode.specs.Encoding.{byteOf, packIn, pack, fieldBytes, entryBytes, fieldsOf};
 ghost use Rattle.encode.specs.Writers.{lengthStands, entriesIn, writing, writeOriginal, writeUpdate, valuesSized, WroteAt};

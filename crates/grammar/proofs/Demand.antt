@@ -11,8 +11,8 @@ use Rattle.wire.specs.Read.{Bytes, Read, ok, cut}
 use Rattle.wire.proofs.Pieces.{Piece, between, here, bind-ok, ok-ok}
 use Rattle.column.specs.declared.column.Column.{Column}
 use Rattle.column.specs.Fields.{fieldAt}
-use Rattle.row.specs.Rows.{rowEnd}
-use Rattle.row.specs.Updates.{updateEnd}
+use Rattle.walk.specs.Rows.{rowEnd}
+use Rattle.walk.specs.Updates.{updateEnd}
 use Rattle.tree.specs.Schemas.{Schema}
 use Rattle.grammar.specs.Grammar.{Field, Original, Update, Element, parentElement, childElement, changeElement, deleteElement, Before, other, Split, done, parent, child, change, delete, Row, rows}
 use Rattle.grammar.specs.Reader.{elements, section}

@@ -8,8 +8,8 @@ use lib.ListN.{length}
 use Rattle.wire.specs.Read.{Bytes, ok, cut, whole}
 use Rattle.wire.proofs.Pieces.{cut-length, whole-ok}
 use Rattle.column.specs.declared.column.Column.{Column}
-use Rattle.row.specs.Rows.{rowEnd}
-use Rattle.row.specs.Updates.{updateEnd}
+use Rattle.walk.specs.Rows.{rowEnd}
+use Rattle.walk.specs.Updates.{updateEnd}
 use Rattle.grammar.proofs.Rows.{row-sound, update-sound}
 
 module _ (columns : List Column) (s : Bytes) (at e : ℕ) where

@@ -14,8 +14,8 @@ use Rattle.wire.specs.declared.error.Input.the-variants.{Single}
 use Rattle.wire.specs.Read.{Bytes, Read, bad, whole}
 use Rattle.wire.proofs.Pieces.{check-ok, whole-ok}
 use Rattle.column.specs.declared.column.Column.{Column}
-use Rattle.row.specs.Rows.{rowEnd}
-use Rattle.row.specs.Updates.{updateEnd}
+use Rattle.walk.specs.Rows.{rowEnd}
+use Rattle.walk.specs.Updates.{updateEnd}
 use Rattle.tree.specs.Schemas.{Schema, childNumber}
 use Rattle.grammar.specs.Grammar.{Element, Before, other, after, columnsAt}
 use Rattle.grammar.specs.Reader.{Token, parentToken, childToken, changeToken, deleteToken, doneToken, unknownToken, tokenOf, knownChild, follows, idAt, element, scan, elements, section}

@@ -15,9 +15,9 @@ use Rattle.tree.specs.Tree.{member}
 use Rattle.tree.specs.Reader.{readNumber, readRange, readFixed, readVariable, readChapter, readKind, readColumn, readColumns, readSchema, ended, readFile, fileOf}
 use Rattle.tree.specs.Schemas.{Schema, schema, ownColumns, nestedSchemas, schemasOf, readSchemas, columnsOf, numberFrom, childNumber}
 use Rattle.tree.specs.Schemas as S
-use Rattle.row.specs.Presence.{nullables, presenceBytes, marks, present, chapterPresent, clear}
-use Rattle.row.specs.Rows.{step, walk, opened, walked, rowEnd}
-use Rattle.row.specs.Updates.{numbered, updateBytes, chapterMarked, forceBroken, carried, carriedIn, updateOpened, updateWalked, updateEnd}
+use Rattle.walk.specs.Presence.{nullables, presenceBytes, marks, present, chapterPresent, clear}
+use Rattle.walk.specs.Rows.{step, walk, opened, walked, rowEnd}
+use Rattle.walk.specs.Updates.{numbered, updateBytes, chapterMarked, forceBroken, carried, carriedIn, updateOpened, updateWalked, updateEnd}
 use Rattle.grammar.specs.Grammar.{Element, parentElement, childElement, changeElement, other, Split, Row, entry, childKind, updateStart, rows}
 use Rattle.grammar.specs.Reader.{tokenOf, knownChild, element, scan, elements, section}
 use Rattle.grammar.proofs.Demand.{accepted-iff-split}

@@ -16,8 +16,8 @@ use Rattle.wire.specs.Bits.{bitAt, bitSet, mapBytes}
 use Rattle.wire.proofs.Pieces.{Piece, bind-ok, check-ok}
 use Rattle.column.specs.declared.column.Column.{Column}
 use Rattle.column.specs.Columns.{isChapter, isNullable}
-use Rattle.row.specs.Presence.{one, nullables, Mark, mark, marks, present, chapterPresent, clear}
-use Rattle.row.specs.Updates.{numbered, chapterMarked, forceBroken, carried}
+use Rattle.walk.specs.Presence.{one, nullables, Mark, mark, marks, present, chapterPresent, clear}
+use Rattle.walk.specs.Updates.{numbered, chapterMarked, forceBroken, carried}
 use Rattle.grammar.specs.Grammar.{byteBits, bits, Present, no-column, always, set, unset, a-chapter, Carried, no-column-left, unchanged, value, forced-null}
 
 -- A map has eight bits a byte.

@@ -6,8 +6,8 @@ use mathlib.Core.List.{List, [], _∷_}
 use lib.ListN.{length, getD}
 use lib.Dec.{eqb}
 use Rattle.wire.specs.Read.{Bytes, Read, ok, bad, _>>=_, check, cut, whole}
-use Rattle.row.specs.Rows.{rowEnd}
-use Rattle.row.specs.Updates.{updateEnd}
+use Rattle.walk.specs.Rows.{rowEnd}
+use Rattle.walk.specs.Updates.{updateEnd}
 use Rattle.tree.specs.Schemas.{Schema, childNumber}
 use Rattle.grammar.specs.Grammar.{Element, parentElement, childElement, changeElement, deleteElement, Before, other, after, columnsAt, Row, entry, childKind, updateStart, rows}
 use Rattle.grammar.specs.Reader.{Token, parentToken, childToken, changeToken, deleteToken, doneToken, unknownToken, tokenOf, knownChild, follows, idAt, element, scan, elements, section}

@@ -18,11 +18,11 @@ use Rattle.column.specs.declared.column.Column.{Column}
 use Rattle.column.specs.Columns.{width, isVariable, isNullable, prefixSize, lengthError}
 use Rattle.column.specs.Fields.{allowed, bytesAt, variableAt, fieldAt}
 use Rattle.column.proofs.Laws.{length-either}
-use Rattle.row.specs.Presence.{one, nullables, presenceBytes, Mark, mark, marks, present, chapterPresent, clear}
-use Rattle.row.specs.Rows.{Place, past, step, walk, opened, walked, rowEnd}
-use Rattle.row.specs.Updates.{updateBytes, numbered, chapterMarked, forceBroken, carriedIn, updateOpened, updateWalked, updateEnd}
-use Rattle.row.proofs.Laws.{chapter-plain}
-use Rattle.row.proofs.UpdateLaws.{map-byte}
+use Rattle.walk.specs.Presence.{one, nullables, presenceBytes, Mark, mark, marks, present, chapterPresent, clear}
+use Rattle.walk.specs.Rows.{Place, past, step, walk, opened, walked, rowEnd}
+use Rattle.walk.specs.Updates.{updateBytes, numbered, chapterMarked, forceBroken, carriedIn, updateOpened, updateWalked, updateEnd}
+use Rattle.walk.proofs.Laws.{chapter-plain}
+use Rattle.walk.proofs.UpdateLaws.{map-byte}
 
 -- P holds of the code and the offset of the error, if the answer is one; it is one of a single input.
 pub data OfError {A : Type 0} (P : ℕ → ℕ → Type 0) : Read A → Type 0 where

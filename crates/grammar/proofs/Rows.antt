@@ -18,14 +18,14 @@ use Rattle.column.specs.declared.types.Kind.the-variants.{Fixed, Variable, Wide
 use Rattle.column.specs.Columns.{kind, width, isVariable, prefixSize, prefixBytes, lengthError}
 use Rattle.column.specs.Fields.{field, fieldAt}
 use Rattle.column.proofs.Laws.{Told, prefix-variable, prefix-plain, plain-allowed, wide-allowed, field-told, field-made}
-use Rattle.row.specs.Presence.{presenceBytes, Mark, marks, present}
-use Rattle.row.specs.Rows.{Place, place, past, step, walk, walked, rowEnd}
-use Rattle.row.specs.Updates.{updateBytes, numbered, carried, carriedIn, updateWalked, updateEnd}
-use Rattle.row.proofs.Laws.{bind-of, length-marks, step-absent, step-field, opened-well, end-reached}
-use Rattle.row.proofs.Found.{Stepped, stayed, moved, step-told, opened-ok}
-use Rattle.row.proofs.Later.{row-end-told}
-use Rattle.row.proofs.UpdateLaws.{length-numbered, update-well, update-end-reached}
-use Rattle.row.proofs.UpdateFound.{update-end-told}
+use Rattle.walk.specs.Presence.{presenceBytes, Mark, marks, present}
+use Rattle.walk.specs.Rows.{Place, place, past, step, walk, walked, rowEnd}
+use Rattle.walk.specs.Updates.{updateBytes, numbered, carried, carriedIn, updateWalked, updateEnd}
+use Rattle.walk.proofs.Laws.{bind-of, length-marks, step-absent, step-field, opened-well, end-reached}
+use Rattle.walk.proofs.Found.{Stepped, stayed, moved, step-told, opened-ok}
+use Rattle.walk.proofs.Later.{row-end-told}
+use Rattle.walk.proofs.UpdateLaws.{length-numbered, update-well, update-end-reached}
+use Rattle.walk.proofs.UpdateFound.{update-end-told}
 use Rattle.grammar.specs.Grammar.{LengthOf, Field, fixed-field, variable-field, wide-field, Fields, no-fields, a-field, Original, original, Update, an-update}
 use Rattle.grammar.proofs.Maps.{piece-begins, enough, clear-sound, clear-complete, keep, chosen, present-sound, present-complete, carried-sound, carried-complete}
 

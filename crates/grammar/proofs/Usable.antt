@@ -11,12 +11,12 @@ use lib.Seq.{take-append-seam, take-length, drop-length}
 use Rattle.wire.specs.Read.{Bytes, ok}
 use Rattle.wire.proofs.Pieces.{Piece, here}
 use Rattle.column.specs.declared.column.Column.{Column}
-use Rattle.row.specs.Rows.{Answer, lookUp}
-use Rattle.row.specs.Updates.{UpdateAnswer, field, null, unchanged, chapter, lookUpdate, Current, updated, forced, original, current}
-use Rattle.row.proofs.Later.{Agree, accepted-later}
-use Rattle.row.proofs.Shift.{inner-row-looks-up, inner-update-looks-up}
-use Rattle.row.proofs.UpdateLaws.{current-updated, current-forced, current-unchanged, current-chapter, from-row}
-use Rattle.row.proofs.UpdateLater.{examined-later}
+use Rattle.walk.specs.Rows.{Answer, lookUp}
+use Rattle.walk.specs.Updates.{UpdateAnswer, field, null, unchanged, chapter, lookUpdate, Current, updated, forced, original, current}
+use Rattle.walk.proofs.Later.{Agree, accepted-later}
+use Rattle.walk.proofs.Shift.{inner-row-looks-up, inner-update-looks-up}
+use Rattle.walk.proofs.UpdateLaws.{current-updated, current-forced, current-unchanged, current-chapter, from-row}
+use Rattle.walk.proofs.UpdateLater.{examined-later}
 use Rattle.tree.specs.Schemas.{Schema, childNumber}
 use Rattle.grammar.specs.Grammar.{Original, Update, Element, Before, after, columnsAt, Split, done, parent, child, change, delete, Row, entry, childKind, updateStart, rows}
 use Rattle.grammar.specs.Reader.{section}

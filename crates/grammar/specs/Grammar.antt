@@ -14,7 +14,7 @@ use Rattle.wire.specs.Bits.{mapBytes}
 use Rattle.column.specs.declared.column.Column.{Column}
 use Rattle.column.specs.declared.types.Kind.the-variants.{Variable, Wide}
 use Rattle.column.specs.Columns.{kind, width, isVariable, isChapter, isNullable, prefixSize}
-use Rattle.row.specs.Presence.{presenceBytes}
+use Rattle.walk.specs.Presence.{presenceBytes}
 use Rattle.tree.specs.Schemas.{Schema, asColumn, columnsOf, childNumber}
 
 -- The length in front of a field: one byte or four, low byte first.

@@ -9,8 +9,8 @@ use lib.Dec.{eqb}
 use Rattle.wire.specs.declared.error.Input.the-variants as input
 use Rattle.wire.specs.Read.{Bytes, Read, ok, bad, _>>=_, pick, check, cut, whole}
 use Rattle.wire.specs.Integers.{intAt}
-use Rattle.row.specs.Rows.{rowEnd}
-use Rattle.row.specs.Updates.{updateEnd}
+use Rattle.walk.specs.Rows.{rowEnd}
+use Rattle.walk.specs.Updates.{updateEnd}
 use Rattle.tree.specs.Schemas.{Schema, childNumber}
 use Rattle.grammar.specs.Grammar.{Element, parentElement, childElement, changeElement, deleteElement, Before, other, after, columnsAt, Row, rows}
 

@@ -17,8 +17,8 @@ use Rattle.column.specs.Columns.{isVariable, isChapter}
 use Rattle.column.specs.Fields.{field as bytes, variableAt}
 use Rattle.column.specs.Packed.{unpackedColumn}
 use Rattle.column.proofs.Laws.{bytes-short, bytes-fit}
-use Rattle.row.specs.Presence.{present}
-use Rattle.row.specs.Rows.{Place, place, reached, field, null, chapter}
+use Rattle.walk.specs.Presence.{present}
+use Rattle.walk.specs.Rows.{Place, place, reached, field, null, chapter}
 use Rattle.plan.specs.declared.plan.Plan.{Plan}
 use Rattle.plan.specs.Packed.{widthIn}
 use Rattle.plan.specs.Plans.{plannedWord, plannedColumn, plannedMark, plannedGap, plannedCount, plannedMap, plannedChapters, fieldIn, jumped, landed, unset, plannedKnown, plannedOpen, plannedAnswer, plannedLookUp, plannedRow}

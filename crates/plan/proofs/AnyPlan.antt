@@ -20,10 +20,10 @@ use Rattle.column.specs.Columns.{isVariable, isChapter, prefixBytes, isStop}
 use Rattle.column.specs.Fields.{field as bytes, bytesAt, variableAt}
 use Rattle.column.specs.Packed.{unpackedColumn}
 use Rattle.column.proofs.Laws.{prefix-plain, bytes-short, bytes-fit, field-variable, field-told}
-use Rattle.row.specs.Presence.{present}
-use Rattle.row.specs.Rows.{Place, place, reached, Answer, field, null, chapter}
-use Rattle.row.specs.Leaps.{leaps}
-use Rattle.row.proofs.Found.{chapter-field, null-field, field-field}
+use Rattle.walk.specs.Presence.{present}
+use Rattle.walk.specs.Rows.{Place, place, reached, Answer, field, null, chapter}
+use Rattle.walk.specs.Leaps.{leaps}
+use Rattle.walk.proofs.Found.{chapter-field, null-field, field-field}
 use Rattle.plan.specs.declared.plan.Plan.{Plan}
 use Rattle.plan.specs.Packed.{widthIn, tabled}
 use Rattle.plan.specs.Plans.{plannedWord, plannedColumn, plannedMark, plannedGap, plannedFirst, startsBefore, stopsGone, stopsTo, byBit, fieldIn, jumped, landed, plannedKnown, plannedOpen, plannedAnswer, plannedLookUp, FixedPlace, fixed, moving, noStops, fixedPlace}

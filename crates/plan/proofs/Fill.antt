@@ -18,9 +18,9 @@ use Rattle.column.specs.Columns.{width, isChapter, isNullable, isStop}
 use Rattle.column.specs.Layout.{padded, columnIn, columnsFrom}
 use Rattle.column.specs.Stops.{stopOf, stopWord}
 use Rattle.column.proofs.Stops.{width-few, stop-chapter, no-stop}
-use Rattle.row.specs.Presence.{noColumn, one, presenceBytes, marks}
-use Rattle.row.specs.Leaps.{stopsFrom}
-use Rattle.row.proofs.Arrays.{length-from, column-from}
+use Rattle.walk.specs.Presence.{noColumn, one, presenceBytes, marks}
+use Rattle.walk.specs.Leaps.{stopsFrom}
+use Rattle.walk.proofs.Arrays.{length-from, column-from}
 use Rattle.plan.specs.Plans.{gapPast, numbersFrom, rowStops, firstStop, chapterMask, planOf}
 use Rattle.plan.specs.Packed.{packed, counted, laid}
 use Rattle.plan.proofs.Packed.{set-column, set-stop, set-counts}

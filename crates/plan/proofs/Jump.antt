@@ -16,11 +16,11 @@ use Rattle.column.specs.declared.field.Field.{Field}
 use Rattle.column.specs.Columns.{width, isVariable, isChapter, isNullable, isStop}
 use Rattle.column.specs.Fields.{fieldAt}
 use Rattle.column.specs.Stops.{Stop, stopOf}
-use Rattle.row.specs.Presence.{noColumn, presenceBytes, Mark, marks, markOf, present}
-use Rattle.row.specs.Rows.{Place, place, reached, arrive, opened, walked, Answer, field, null, chapter, fieldOf, columnOf, known, lookUp, lookUpRow}
-use Rattle.row.specs.Leaps.{stopsFrom, tailFrom, leaps}
-use Rattle.row.proofs.Found.{known-ok, opened-ok}
-use Rattle.row.proofs.Leap.{jump-walk, leap-arrive}
+use Rattle.walk.specs.Presence.{noColumn, presenceBytes, Mark, marks, markOf, present}
+use Rattle.walk.specs.Rows.{Place, place, reached, arrive, opened, walked, Answer, field, null, chapter, fieldOf, columnOf, known, lookUp, lookUpRow}
+use Rattle.walk.specs.Leaps.{stopsFrom, tailFrom, leaps}
+use Rattle.walk.proofs.Found.{known-ok, opened-ok}
+use Rattle.walk.proofs.Leap.{jump-walk, leap-arrive}
 use Rattle.plan.specs.declared.plan.Plan.{Plan}
 use Rattle.plan.specs.Packed.{widthIn}
 use Rattle.plan.specs.Plans.{planOf, Kept, plannedWord, plannedColumn, plannedMark, plannedGap, plannedChapters, stopsTo, byBit, fieldIn, jumped, landed, unset, plannedKnown, plannedOpen, plannedAnswer, plannedLookUp, plannedRow}

@@ -21,10 +21,10 @@ use Rattle.column.specs.Fields.{variableAt}
 use Rattle.column.specs.Stops.{Stop, stopIn, prefixOf, there, lengthAt, spanAt, spanError}
 use Rattle.column.proofs.Laws.{field-variable, field-told}
 use Rattle.column.proofs.StopLaws.{stop-bit-small}
-use Rattle.row.specs.Presence.{one}
-use Rattle.row.specs.Rows.{Place, place}
-use Rattle.row.specs.Leaps.{passed, leaps}
-use Rattle.row.proofs.Leap.{span-long, error-long}
+use Rattle.walk.specs.Presence.{one}
+use Rattle.walk.specs.Rows.{Place, place}
+use Rattle.walk.specs.Leaps.{passed, leaps}
+use Rattle.walk.proofs.Leap.{span-long, error-long}
 use Rattle.row.specs.declared.rows.WalkRead.{WalkRead}
 use Rattle.row.specs.declared.rows.WalkRead.the-variants as walk
 use Rattle.plan.specs.declared.plan.Plan.{Plan}

@@ -20,9 +20,9 @@ use Rattle.column.specs.Packed.{unpackedColumn}
 use Rattle.column.specs.Stops.{Stop, stopOf, stopWord, stopIn}
 use Rattle.column.proofs.Stops.{width-few}
 use Rattle.column.proofs.StopLaws.{stop-in, stop-fits}
-use Rattle.row.specs.Presence.{noColumn, one, nullables, presenceBytes, Mark, mark, noMark, marks, bitOf, markOf, chapterPresent, clear}
-use Rattle.row.specs.Leaps.{stopsFrom, tailFrom}
-use Rattle.row.proofs.Laws.{length-marks, mark-at, bit-few}
+use Rattle.walk.specs.Presence.{noColumn, one, nullables, presenceBytes, Mark, mark, noMark, marks, bitOf, markOf, chapterPresent, clear}
+use Rattle.walk.specs.Leaps.{stopsFrom, tailFrom}
+use Rattle.walk.proofs.Laws.{length-marks, mark-at, bit-few}
 use Rattle.plan.specs.Plans.{gapPast, numbersFrom, rowStops, firstStop, chapterMask, planOf, Kept, plannedWord, plannedColumn, plannedMark, plannedGap, plannedCount, plannedMap, plannedChapters, plannedStop, plannedFirst, startsBefore, stopsGone, stopsTo, unsetFrom, unset}
 use Rattle.plan.specs.Packed.{packed, gapIn, bitIn, beforeIn, widthIn, counted, countIn, firstIn, tabled}
 use Rattle.plan.proofs.Packed.{packed-column, packed-gap, packed-bit, packed-before, packed-width, counted-count, counted-first, laid-column, laid-stop, laid-last}

@@ -10,7 +10,7 @@ use Rattle.column.specs.declared.column.Column.{Column}
 use Rattle.column.specs.Columns.{width}
 use Rattle.column.specs.Layout.{mostColumns, padded}
 use Rattle.column.specs.Packed.{packedColumn, unpackedColumn}
-use Rattle.row.proofs.Laws.{padded-at}
+use Rattle.walk.proofs.Laws.{padded-at}
 use Rattle.plan.specs.Packed.{packed, gapIn, bitIn, beforeIn, widthIn, counted, countIn, firstIn, laid}
 use Rattle.column.proofs.StopLaws.{column-in}
 

@@ -10,8 +10,8 @@ use Rattle.wire.specs.Bits.{bitSet}
 use Rattle.wire.specs.Maps.{topBit}
 use Rattle.column.specs.declared.field.Field.{Field}
 use Rattle.column.specs.Stops.{Stop, spanAt, spanError}
-use Rattle.row.specs.Presence.{one}
-use Rattle.row.specs.Rows.{Place, place, reached, Answer, field}
+use Rattle.walk.specs.Presence.{one}
+use Rattle.walk.specs.Rows.{Place, place, reached, Answer, field}
 use Rattle.row.specs.declared.rows.WalkRead.{WalkRead}
 use Rattle.row.specs.declared.rows.WalkRead.the-variants as walk
 use Rattle.plan.specs.declared.plan.Plan.{Plan}

@@ -17,9 +17,9 @@ use Rattle.column.specs.Fields.{bytesAt, variableAt}
 use Rattle.column.specs.Layout.{mostColumns}
 use Rattle.column.specs.Packed.{unpackedColumn}
 use Rattle.column.specs.Stops.{Stop, stopWord, stopIn}
-use Rattle.row.specs.Presence.{noColumn, one, presenceBytes, Mark, mark, marks, present}
-use Rattle.row.specs.Rows.{Place, place, reached, Answer, field, null, chapter}
-use Rattle.row.specs.Leaps.{stopsFrom, leaps}
+use Rattle.walk.specs.Presence.{noColumn, one, presenceBytes, Mark, mark, marks, present}
+use Rattle.walk.specs.Rows.{Place, place, reached, Answer, field, null, chapter}
+use Rattle.walk.specs.Leaps.{stopsFrom, leaps}
 use Rattle.plan.specs.declared.plan.Plan.{Plan}
 use Rattle.plan.specs.Packed.{packed, gapIn, bitIn, beforeIn, widthIn, counted, countIn, firstIn, laid, tabled}
 

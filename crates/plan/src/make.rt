@@ -5,7 +5,7 @@ ghost use lib.Dec.{eqb};
 ghost use Rattle.wire.specs.Read.{pick};
 ghost use Rattle.column.specs.Columns.{width, isChapter};
 ghost use Rattle.column.specs.Layout.{columnsFrom, columnsIn};
-ghost use Rattle.row.specs.Presence.{presenceBytes};
+ghost use Rattle.walk.specs.Presence.{presenceBytes};
 ghost use Rattle.plan.specs.Packed.{packed};
 ghost use Rattle.plan.specs.Plans.{planOf};
 use crate::BEFORE;

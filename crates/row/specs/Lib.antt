@@ -1,8 +1,1 @@
-pub mod Presence
-pub mod Rows
 pub mod Told
-pub mod Updates
-pub mod Parts
-pub mod Leaps
--- Inner.
-pub mod Examples

@@ -1,14 +1,12 @@
-// Rows over the columns of one schema: presence, the walk, look-up, the end of a row, the number of fields; update data; the
-// current value of a changed row. It knows columns and not schema files; whoever has a schema file asks it with the schema's
-// columns.
+// Original rows over the columns of one schema: presence, the walk, look-up, the end of a row, the number of fields, the bytes of a field. It
+// knows columns and not schema files; whoever has a schema file asks it with the schema's columns.
 ghost use mathlib.Core.Path.{_≡_};
 ghost use Prim.Native.Nat.{_<_};
 ghost use Rattle.column.specs.Layout.{columnIn};
 use column::column::Column;
 
-pub mod current;
+pub mod parts;
 pub mod rows;
-pub mod updates;
 
 // Column `i` of a schema's arrays.
 fn column_of<'a>(

@@ -13,8 +13,8 @@ use borrow.Author.Tests.{le-leb}
 use Rattle.wire.specs.Read.{Bytes, ok}
 use Rattle.column.specs.declared.column.Column.{Column}
 use Rattle.column.specs.Stops.{Stop, noStop, stopIn}
-use Rattle.row.specs.Rows.{Place, place}
-use Rattle.row.specs.Leaps.{passed, leaps, inside, leap}
+use Rattle.walk.specs.Rows.{Place, place}
+use Rattle.walk.specs.Leaps.{passed, leaps, inside, leap}
 use Rattle.section.specs.declared.ways.Way.{Way}
 use Rattle.section.specs.Ways.{dataEnd, dataOn, dataStops, Leads, Led, Shut, WayIs, PassedTo}
 

@@ -15,11 +15,11 @@ use Rattle.wire.specs.Maps.{mapBits, topBit}
 use Rattle.wire.proofs.Laws.{whole-fits}
 use Rattle.column.specs.declared.column.Column.{Column}
 use Rattle.column.specs.Columns.{isChapter, isNullable}
-use Rattle.row.specs.Presence.{presenceBytes, Mark, noMark, marks, chapterPresent, clear}
-use Rattle.row.specs.Rows.{opened}
-use Rattle.row.specs.Updates.{numbered, updateBytes, chapterMarked, forceBroken, updateOpened}
-use Rattle.row.proofs.Laws.{bit-few, length-marks, mark-at}
-use Rattle.row.proofs.UpdateLaws.{length-numbered, number-at}
+use Rattle.walk.specs.Presence.{presenceBytes, Mark, noMark, marks, chapterPresent, clear}
+use Rattle.walk.specs.Rows.{opened}
+use Rattle.walk.specs.Updates.{numbered, updateBytes, chapterMarked, forceBroken, updateOpened}
+use Rattle.walk.proofs.Laws.{bit-few, length-marks, mark-at}
+use Rattle.walk.proofs.UpdateLaws.{length-numbered, number-at}
 use Rattle.section.specs.Maps.{Covers, isMarked, isNested, isUnforced, isAny, Keeps}
 use Rattle.wire.proofs.MapBits.{map-bit, bit-none, bit-within}
 

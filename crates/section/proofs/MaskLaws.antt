@@ -13,10 +13,10 @@ use lib.Bits.{bitOr}
 use Rattle.wire.specs.Maps.{topBit}
 use Rattle.column.specs.declared.column.Column.{Column}
 use Rattle.column.specs.Columns.{isChapter}
-use Rattle.row.specs.Presence.{Mark, mark, noMark, marks, bitOf}
-use Rattle.row.specs.Updates.{numbered}
-use Rattle.row.proofs.Laws.{bit-few, length-marks, mark-at}
-use Rattle.row.proofs.UpdateLaws.{length-numbered, number-at}
+use Rattle.walk.specs.Presence.{Mark, mark, noMark, marks, bitOf}
+use Rattle.walk.specs.Updates.{numbered}
+use Rattle.walk.proofs.Laws.{bit-few, length-marks, mark-at}
+use Rattle.walk.proofs.UpdateLaws.{length-numbered, number-at}
 use Rattle.tree.specs.Schemas.{asColumn}
 use Rattle.tree.specs.Table.{entryIn}
 use Rattle.section.specs.Shapes.{slotColumns}

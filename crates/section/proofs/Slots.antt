@@ -11,10 +11,10 @@ use Rattle.column.specs.declared.column.Column.{Column}
 use Rattle.column.specs.declared.columns.Columns.{Columns}
 use Rattle.column.specs.Columns.{isNullable}
 use Rattle.column.specs.Layout.{mostColumns, layout, columnsIn}
-use Rattle.row.specs.Presence.{noColumn, one, bitOf}
-use Rattle.row.specs.Updates.{updateBytes}
-use Rattle.row.proofs.Laws.{bit-next, bit-few}
-use Rattle.row.proofs.Arrays.{columns-laid}
+use Rattle.walk.specs.Presence.{noColumn, one, bitOf}
+use Rattle.walk.specs.Updates.{updateBytes}
+use Rattle.walk.proofs.Laws.{bit-next, bit-few}
+use Rattle.walk.proofs.Arrays.{columns-laid}
 use Rattle.tree.specs.Tree.{mostFileColumns}
 use Rattle.tree.specs.Schemas.{entry, asColumn}
 use Rattle.tree.specs.Table.{entryIn, entriesIn}

@@ -13,10 +13,10 @@ use Rattle.wire.specs.Maps.{topBit}
 use Rattle.column.specs.Columns.{lengthErrorOf}
 use Rattle.column.specs.Stops.{Stop, stopIn, there, lengthAt, spanAt, spanError}
 use Rattle.column.proofs.Laws.{rule-most}
-use Rattle.row.specs.Presence.{one}
-use Rattle.row.specs.Rows.{place}
-use Rattle.row.specs.Leaps.{passed}
-use Rattle.row.proofs.Leap.{span-long, error-long, span-plain, error-plain, passed-none, passed-over}
+use Rattle.walk.specs.Presence.{one}
+use Rattle.walk.specs.Rows.{place}
+use Rattle.walk.specs.Leaps.{passed}
+use Rattle.walk.proofs.Leap.{span-long, error-long, span-plain, error-plain, passed-none, passed-over}
 use Rattle.section.specs.Ways.{Leads, PassedTo}
 
 one-is : (t : Bool) → one t ≡ 1 → t ≡ true

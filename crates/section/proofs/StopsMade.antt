@@ -18,10 +18,10 @@ use Rattle.column.specs.Columns.{width, isNullable, isStop}
 use Rattle.column.specs.Stops.{Stop, noStop, stopOf, stopWord, stopIn}
 use Rattle.column.proofs.Stops.{width-few}
 use Rattle.column.proofs.StopLaws.{stop-in, stop-fits}
-use Rattle.row.specs.Presence.{noColumn, one, nullables, presenceBytes, Mark, mark, noMark, marks, bitOf}
-use Rattle.row.specs.Leaps.{stopsFrom, tailFrom}
-use Rattle.row.proofs.Laws.{bit-zero, bit-next, bit-all, length-marks, mark-at, map-few}
-use Rattle.row.proofs.Leap.{stops-append, tail-append, stops-few, update-stops, update-stop}
+use Rattle.walk.specs.Presence.{noColumn, one, nullables, presenceBytes, Mark, mark, noMark, marks, bitOf}
+use Rattle.walk.specs.Leaps.{stopsFrom, tailFrom}
+use Rattle.walk.proofs.Laws.{bit-zero, bit-next, bit-all, length-marks, mark-at, map-few}
+use Rattle.walk.proofs.Leap.{stops-append, tail-append, stops-few, update-stops, update-stop}
 use Rattle.tree.specs.Schemas.{asColumn, Schema, schema, columnCount}
 use Rattle.tree.specs.Table.{startIn, countIn, schemaSlot, entryIn, schemaIn, schemasIn}
 use Rattle.tree.proofs.TableSays.{entries-length, schemas-in-length, schemas-in-at}

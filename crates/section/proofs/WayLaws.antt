@@ -18,13 +18,13 @@ use Rattle.column.specs.declared.column.Column.{Column}
 use Rattle.column.specs.Columns.{width, isNullable, isStop}
 use Rattle.column.specs.Stops.{Stop, noStop, stopOf, prefixOf, there}
 use Rattle.column.proofs.StopLaws.{stop-prefix}
-use Rattle.row.specs.Presence.{noColumn, one, nullables, presenceBytes, Mark, noMark, marks, bitOf}
-use Rattle.row.specs.Rows.{place, opened}
-use Rattle.row.specs.Updates.{numbered, updateBytes, updateOpened}
-use Rattle.row.specs.Leaps.{stopsFrom, tailFrom, anyColumn, carriedBit, leap}
-use Rattle.row.proofs.Laws.{bind-of, bit-next, bit-all, bit-below, bit-few, length-marks, mark-at, map-few}
-use Rattle.row.proofs.UpdateLaws.{length-numbered, number-at}
-use Rattle.row.proofs.Leap.{original-ends, update-ends, stops-few, update-stops}
+use Rattle.walk.specs.Presence.{noColumn, one, nullables, presenceBytes, Mark, noMark, marks, bitOf}
+use Rattle.walk.specs.Rows.{place, opened}
+use Rattle.walk.specs.Updates.{numbered, updateBytes, updateOpened}
+use Rattle.walk.specs.Leaps.{stopsFrom, tailFrom, anyColumn, carriedBit, leap}
+use Rattle.walk.proofs.Laws.{bind-of, bit-next, bit-all, bit-below, bit-few, length-marks, mark-at, map-few}
+use Rattle.walk.proofs.UpdateLaws.{length-numbered, number-at}
+use Rattle.walk.proofs.Leap.{original-ends, update-ends, stops-few, update-stops}
 use Rattle.tree.specs.Table.{schemaSlot, startIn, countIn}
 use Rattle.section.specs.Shapes.{firstIn, stopsIn, mapIn, tailIn, alwaysIn, alwaysOf, updateWords, slotColumns, Formed, Sound, Shaped}
 use Rattle.section.specs.Ways.{dataOn, dataStops, Leads, Led, Shut}

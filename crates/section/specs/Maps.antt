@@ -10,8 +10,8 @@ use Rattle.wire.specs.Read.{pick}
 use Rattle.wire.specs.Maps.{topBit}
 use Rattle.column.specs.declared.column.Column.{Column}
 use Rattle.column.specs.Columns.{isChapter, isNullable}
-use Rattle.row.specs.Presence.{Mark, noMark, marks}
-use Rattle.row.specs.Updates.{numbered}
+use Rattle.walk.specs.Presence.{Mark, noMark, marks}
+use Rattle.walk.specs.Updates.{numbered}
 use Rattle.section.specs.Shapes.{slotColumns}
 
 -- in a mask the bits of all marks that pass a test are set

@@ -11,8 +11,8 @@ use lib.ListN.{length, getD}
 use Rattle.column.specs.declared.column.Column.{Column}
 use Rattle.column.specs.Columns.{isStop}
 use Rattle.column.specs.Stops.{Stop, noStop, stopIn}
-use Rattle.row.specs.Presence.{one, nullables, presenceBytes, marks}
-use Rattle.row.specs.Leaps.{tailFrom}
+use Rattle.walk.specs.Presence.{one, nullables, presenceBytes, marks}
+use Rattle.walk.specs.Leaps.{tailFrom}
 use Rattle.tree.specs.Schemas.{asColumn, columnCount, childNumber}
 use Rattle.tree.specs.Table.{schemaSlot, startIn, countIn, idIn, entriesIn, schemasIn}
 use Rattle.section.specs.Ways.{dataStops}

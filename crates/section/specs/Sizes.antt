@@ -8,8 +8,8 @@ use lib.ListN.{length, getD}
 use lib.Dec.{ltb, eqb}
 use Rattle.wire.specs.declared.error.Input.the-variants as input
 use Rattle.wire.specs.Read.{Bytes, Read, ok, bad, _>>=_, pick}
-use Rattle.row.specs.Rows.{rowEnd}
-use Rattle.row.specs.Updates.{updateEnd}
+use Rattle.walk.specs.Rows.{rowEnd}
+use Rattle.walk.specs.Updates.{updateEnd}
 use Rattle.tree.specs.Schemas.{Schema, childNumber}
 use Rattle.grammar.specs.Grammar.{columnsAt, Row, entry}
 use Rattle.grammar.specs.Reader.{Token, parentToken, childToken, changeToken, deleteToken, doneToken, unknownToken, tokenOf, knownChild, idAt, section}

@@ -12,10 +12,10 @@ use Rattle.wire.specs.Maps.{topBit}
 use Rattle.column.specs.declared.column.Column.{Column}
 use Rattle.column.specs.Columns.{isNullable, isStop}
 use Rattle.column.specs.Stops.{Stop, noStop, stopIn, prefixOf, there}
-use Rattle.row.specs.Presence.{one, marks}
-use Rattle.row.specs.Rows.{place, rowEnd}
-use Rattle.row.specs.Updates.{numbered, updateEnd}
-use Rattle.row.specs.Leaps.{stopsFrom, anyColumn, carriedBit, passed, leap}
+use Rattle.walk.specs.Presence.{one, marks}
+use Rattle.walk.specs.Rows.{place, rowEnd}
+use Rattle.walk.specs.Updates.{numbered, updateEnd}
+use Rattle.walk.specs.Leaps.{stopsFrom, anyColumn, carriedBit, passed, leap}
 use Rattle.section.specs.declared.ways.Way.{Way}
 
 -- where row data end: update data where `update` says so, else original row data

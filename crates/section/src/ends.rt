@@ -6,8 +6,8 @@ ghost use Rattle.section.specs.Ways.{dataEnd};
 use crate::shapes::PART;
 use crate::shapes::SCHEMAS;
 use row::rows::row_end;
-use row::updates::update_end;
 use schema::columns::columns_in;
+use update::updates::update_end;
 use wire::integer::IntRead;
 
 // Where the data at `start` of a row of schema `number` end: of update data where `update` says so.

@@ -6,7 +6,7 @@ ghost use lib.ListN.{length};
 ghost use mathlib.Core.List.{map};
 ghost use Rattle.tree.specs.Schemas.{asColumn};
 ghost use Rattle.tree.specs.Table.{entriesIn};
-ghost use Rattle.row.specs.Presence.{mark};
+ghost use Rattle.walk.specs.Presence.{mark};
 ghost use Rattle.section.specs.Maps.{BitAdded, MasksAdded, Keeps, isMarked, isUnforced};
 use column::column::Column;
 use column::packed::unpack;

@@ -3,8 +3,8 @@
 use mathlib.Core.Path.{refl}
 use Rattle.wire.specs.Bits.{mapBytes}
 use Rattle.column.specs.Layout.{padded}
-use Rattle.row.specs.Presence.{nullables, presenceBytes, marks}
-use Rattle.row.specs.Leaps.{stopsFrom}
+use Rattle.walk.specs.Presence.{nullables, presenceBytes, marks}
+use Rattle.walk.specs.Leaps.{stopsFrom}
 use Rattle.plan.specs.Packed.{counted, laid}
 use Rattle.plan.specs.Plans.{numbersFrom, firstStop, chapterMask, planOf}
 use borrow.Author.Needs.{needs}

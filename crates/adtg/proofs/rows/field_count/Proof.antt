@@ -1,7 +1,7 @@
 -- The columns, then the row's map.
 -- Assumes nothing.
 use mathlib.Core.Path.{sym, _∙_}
-use Rattle.row.specs.Rows.{fieldCount}
+use Rattle.walk.specs.Rows.{fieldCount}
 use Rattle.adtg.specs.Rows.{fieldCountIn}
 use Rattle.adtg.proofs.Laws.{refused-in, found-in}
 use borrow.Author.Needs.{needs}

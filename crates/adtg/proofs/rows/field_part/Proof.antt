@@ -1,7 +1,7 @@
 -- The columns, then the part of the row.
 -- Assumes nothing.
 use mathlib.Core.Path.{sym, ap, _∙_}
-use Rattle.row.specs.Parts.{partOf}
+use Rattle.walk.specs.Parts.{partOf}
 use Rattle.adtg.proofs.Laws.{look-refused, look-found}
 use borrow.Author.Needs.{needs}
 use Rattle.adtg.proofs.rows.field_part.Statement.{statement}

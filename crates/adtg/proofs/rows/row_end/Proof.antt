@@ -3,7 +3,7 @@
 use mathlib.Core.Path.{sym, ap, _∙_}
 use Rattle.wire.specs.declared.error.Input.the-variants as input
 use Rattle.wire.specs.Read.{about}
-use Rattle.row.specs.Rows.{rowEnd}
+use Rattle.walk.specs.Rows.{rowEnd}
 use Rattle.adtg.specs.Rows.{rowEndIn}
 use Rattle.adtg.proofs.Laws.{refused-in, found-in}
 use borrow.Author.Needs.{needs}

@@ -1,7 +1,7 @@
 -- The columns, then the part of the row that answers.
 -- Assumes nothing.
 use mathlib.Core.Path.{sym, ap, _∙_}
-use Rattle.row.specs.Parts.{currentPart}
+use Rattle.walk.specs.Parts.{currentPart}
 use Rattle.adtg.proofs.Laws.{current-refused, current-found}
 use borrow.Author.Needs.{needs}
 use Rattle.adtg.proofs.updates.current_part.Statement.{statement}

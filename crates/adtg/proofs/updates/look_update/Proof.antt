@@ -1,7 +1,7 @@
 -- The columns, then the update data.
 -- Assumes nothing.
 use mathlib.Core.Path.{sym, _∙_}
-use Rattle.row.specs.Updates.{lookUpdate, lookUpdateRow}
+use Rattle.walk.specs.Updates.{lookUpdate, lookUpdateRow}
 use Rattle.adtg.specs.Updates.{lookUpdateIn}
 use Rattle.adtg.proofs.Laws.{refused-in, found-sized}
 use borrow.Author.Needs.{needs}

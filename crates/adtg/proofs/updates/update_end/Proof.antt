@@ -3,7 +3,7 @@
 use mathlib.Core.Path.{sym, ap, _∙_}
 use Rattle.wire.specs.declared.error.Input.the-variants as input
 use Rattle.wire.specs.Read.{about}
-use Rattle.row.specs.Updates.{updateEnd}
+use Rattle.walk.specs.Updates.{updateEnd}
 use Rattle.adtg.specs.Updates.{updateEndIn}
 use Rattle.adtg.proofs.Laws.{refused-in, found-in}
 use borrow.Author.Needs.{needs}

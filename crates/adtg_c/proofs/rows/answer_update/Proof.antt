@@ -1,7 +1,7 @@
 -- Each case's numbers are those of what it says.
 -- Assumes nothing.
 use mathlib.Core.Path.{ap}
-use Rattle.row.specs.Told.{toldUpdate}
+use Rattle.update.specs.Told.{toldUpdate}
 use Rattle.adtg_c.specs.RowAnswers.{updateValues}
 use Rattle.adtg_c.proofs.Laws.{answered-error, answered-value}
 use borrow.Author.Needs.{needs}

@@ -1,7 +1,7 @@
 -- By the map.
 -- Assumes nothing.
 use mathlib.Core.Path.{sym, ap, _∙_}
-use Rattle.row.specs.Presence.{one}
+use Rattle.walk.specs.Presence.{one}
 use Rattle.encode.specs.declared.writers.Map.{Map}
 use Rattle.encode.specs.Entries.{given, entryOf}
 use Rattle.encode.specs.Steps.{bitOf}

@@ -7,7 +7,7 @@ use lib.ListN.{length}
 use Rattle.wire.specs.Read.{ok}
 use Rattle.wire.specs.Integers.{toldInt}
 use Rattle.column.specs.Layout.{columnsFrom}
-use Rattle.row.proofs.Arrays.{length-from}
+use Rattle.walk.proofs.Arrays.{length-from}
 use Rattle.encode.proofs.Arrays.{fields-small}
 use Rattle.encode.proofs.Writing.{Task, mapsOf, sizesOf, Checked, values-over, place-outside, entries-miscounted, entries-none, entry-refused, fields-sized, row-over, maps-fit, fields-fit, row-written, row-refused}
 use borrow.Author.Needs.{needs}

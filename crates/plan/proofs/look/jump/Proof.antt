@@ -6,8 +6,8 @@ use mathlib.Core.List.{map}
 use native.Mathlib.Omega.{arith}
 use Rattle.wire.specs.Read.{ok}
 use Rattle.wire.specs.Bits.{bitSet}
-use Rattle.row.specs.Rows.{place}
-use Rattle.row.specs.Leaps.{leaps}
+use Rattle.walk.specs.Rows.{place}
+use Rattle.walk.specs.Leaps.{leaps}
 use Rattle.row.specs.Told.{toldWalk}
 use Rattle.plan.specs.Packed.{tabled}
 use Rattle.plan.specs.Plans.{plannedStop, byBit}

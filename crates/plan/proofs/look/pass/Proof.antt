@@ -3,7 +3,7 @@
 use Prim.Native.Nat.{_+_}
 use mathlib.Core.Path.{sym, _∙_}
 use native.Mathlib.Omega.{arith}
-use Rattle.row.specs.Rows.{place}
+use Rattle.walk.specs.Rows.{place}
 use Rattle.plan.proofs.Laws.{passed-fixed, passed-absent, passed-there, near-more, times-one}
 use borrow.Author.Needs.{needs}
 use Rattle.plan.proofs.look.pass.Statement.{statement}

@@ -5,8 +5,8 @@ use mathlib.Core.Path.{refl, sym}
 use native.Mathlib.Omega.{arith}
 use Rattle.column.specs.Layout.{columnsFrom}
 use Rattle.column.proofs.Stops.{width-few}
-use Rattle.row.proofs.Arrays.{length-from}
-use Rattle.row.specs.Presence.{one}
+use Rattle.walk.proofs.Arrays.{length-from}
+use Rattle.walk.specs.Presence.{one}
 use Rattle.plan.proofs.Made.{one-few}
 use Rattle.plan.proofs.Fill.{Filling, fill-start, fill-stop, mask-room, fill-plain, fill-end}
 use borrow.Author.Needs.{needs}

@@ -9,9 +9,9 @@ use Rattle.wire.specs.Read.{pick}
 use Rattle.column.specs.declared.column.Column.{Column}
 use Rattle.column.specs.Columns.{isChapter, isNullable}
 use Rattle.column.specs.Layout.{columnsFrom}
-use Rattle.row.specs.Rows.{always}
-use Rattle.row.proofs.Laws.{always-zero, always-one, always-few, always-end}
-use Rattle.row.proofs.Arrays.{length-from, asked}
+use Rattle.walk.specs.Rows.{always}
+use Rattle.walk.proofs.Laws.{always-zero, always-one, always-few, always-end}
+use Rattle.walk.proofs.Arrays.{length-from, asked}
 use borrow.Author.Needs.{needs}
 use Rattle.row.proofs.rows.count_always.Statement.{statement}
 use Rattle.row.proofs.rows.count_always.Tie as tie

@@ -8,9 +8,9 @@ use lib.ListN.{length, getD}
 use Rattle.column.specs.declared.column.Column.{Column}
 use Rattle.column.specs.Columns.{isNullable}
 use Rattle.column.specs.Layout.{columnsFrom}
-use Rattle.row.specs.Presence.{one, bitOf, nullables}
-use Rattle.row.proofs.Laws.{bit-zero, bit-next, bit-all, bit-few}
-use Rattle.row.proofs.Arrays.{length-from, bit-on}
+use Rattle.walk.specs.Presence.{one, bitOf, nullables}
+use Rattle.walk.proofs.Laws.{bit-zero, bit-next, bit-all, bit-few}
+use Rattle.walk.proofs.Arrays.{length-from, bit-on}
 use borrow.Author.Needs.{needs}
 use Rattle.row.proofs.rows.count_nullable.Statement.{statement}
 use Rattle.row.proofs.rows.count_nullable.Tie as tie

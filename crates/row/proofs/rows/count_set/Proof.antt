@@ -6,9 +6,9 @@ use native.Mathlib.Omega.{arith}
 use lib.ListN.{length, getD}
 use lib.Count.{ones, ones-le}
 use Rattle.wire.specs.Read.{Bytes}
-use Rattle.row.specs.Rows.{setBits}
-use Rattle.row.proofs.Laws.{set-zero}
-use Rattle.row.proofs.BitCounts.{set-le, set-byte, set-last-kept}
+use Rattle.walk.specs.Rows.{setBits}
+use Rattle.walk.proofs.Laws.{set-zero}
+use Rattle.walk.proofs.BitCounts.{set-le, set-byte, set-last-kept}
 use borrow.Author.Needs.{needs}
 use Rattle.row.proofs.rows.count_set.Statement.{statement}
 use Rattle.row.proofs.rows.count_set.Tie as tie

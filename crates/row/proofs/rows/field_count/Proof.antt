@@ -9,12 +9,12 @@ use Rattle.wire.specs.Read.{Bytes, Read, ok, bad, limit}
 use Rattle.wire.specs.Integers.{toldInt}
 use Rattle.column.specs.declared.column.Column.{Column}
 use Rattle.column.specs.Layout.{columnsFrom, columnsIn}
-use Rattle.row.specs.Presence.{nullables, presenceBytes}
-use Rattle.row.specs.Rows.{opened, always, setBits, fieldCount}
-use Rattle.row.proofs.Laws.{bit-all, bit-few, always-few, always-end, map-bits, count-large, count-closed, count-well}
-use Rattle.row.proofs.Found.{opened-ok}
-use Rattle.row.proofs.BitCounts.{set-le}
-use Rattle.row.proofs.Arrays.{length-from}
+use Rattle.walk.specs.Presence.{nullables, presenceBytes}
+use Rattle.walk.specs.Rows.{opened, always, setBits, fieldCount}
+use Rattle.walk.proofs.Laws.{bit-all, bit-few, always-few, always-end, map-bits, count-large, count-closed, count-well}
+use Rattle.walk.proofs.Found.{opened-ok}
+use Rattle.walk.proofs.BitCounts.{set-le}
+use Rattle.walk.proofs.Arrays.{length-from}
 use borrow.Author.Needs.{needs}
 use Rattle.row.proofs.rows.field_count.Statement.{statement}
 use Rattle.row.proofs.rows.field_count.Tie as tie

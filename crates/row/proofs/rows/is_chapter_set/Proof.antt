@@ -1,7 +1,7 @@
 -- Each way out is the definition's.
 -- Assumes nothing.
 use mathlib.Core.Path.{sym, _∙_}
-use Rattle.row.proofs.Laws.{chapter-bit, chapter-plain, chapter-none}
+use Rattle.walk.proofs.Laws.{chapter-bit, chapter-plain, chapter-none}
 use borrow.Author.Needs.{needs}
 use Rattle.row.proofs.rows.is_chapter_set.Statement.{statement}
 use Rattle.row.proofs.rows.is_chapter_set.Tie as tie

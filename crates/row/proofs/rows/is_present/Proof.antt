@@ -1,7 +1,7 @@
 -- Each way out is the definition's.
 -- Assumes nothing.
 use mathlib.Core.Path.{sym, _∙_}
-use Rattle.row.proofs.Laws.{present-chapter, present-bit, present-always}
+use Rattle.walk.proofs.Laws.{present-chapter, present-bit, present-always}
 use borrow.Author.Needs.{needs}
 use Rattle.row.proofs.rows.is_present.Statement.{statement}
 use Rattle.row.proofs.rows.is_present.Tie as tie

@@ -11,12 +11,12 @@ use Rattle.column.specs.declared.column.Column.{Column}
 use Rattle.column.specs.Columns.{isChapter}
 use Rattle.column.specs.Fields.{fieldAt, toldField}
 use Rattle.column.specs.Layout.{columnsFrom}
-use Rattle.row.specs.Presence.{Mark, mark, marks, present}
-use Rattle.row.specs.Rows.{place, walk}
+use Rattle.walk.specs.Presence.{Mark, mark, marks, present}
+use Rattle.walk.specs.Rows.{place, walk}
 use Rattle.row.specs.Told.{toldWalk, toldLookUp}
-use Rattle.row.proofs.Laws.{look-up-chapter, look-up-null, look-up-refused, look-up-bad, look-up-found}
-use Rattle.row.proofs.Found.{walked-from, walk-few}
-use Rattle.row.proofs.Arrays.{length-from, asked, marked, bit-counted, few-prefixes}
+use Rattle.walk.proofs.Laws.{look-up-chapter, look-up-null, look-up-refused, look-up-bad, look-up-found}
+use Rattle.walk.proofs.Found.{walked-from, walk-few}
+use Rattle.walk.proofs.Arrays.{length-from, asked, marked, bit-counted, few-prefixes}
 use borrow.Author.Needs.{needs}
 use Rattle.row.proofs.rows.look_at.Statement.{statement}
 use Rattle.row.proofs.rows.look_at.Tie as tie

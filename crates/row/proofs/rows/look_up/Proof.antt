@@ -9,10 +9,10 @@ use Rattle.wire.specs.Read.{Bytes, ok, bad}
 use Rattle.wire.specs.Integers.{toldInt}
 use Rattle.column.specs.declared.column.Column.{Column}
 use Rattle.column.specs.Layout.{columnsFrom, columnsIn}
-use Rattle.row.specs.Rows.{lookUp, lookUpRow}
+use Rattle.walk.specs.Rows.{lookUp, lookUpRow}
 use Rattle.row.specs.Told.{toldLookUp}
-use Rattle.row.proofs.Laws.{look-up-large, look-up-sized, look-up-column, look-up-closed}
-use Rattle.row.proofs.Arrays.{length-from}
+use Rattle.walk.proofs.Laws.{look-up-large, look-up-sized, look-up-column, look-up-closed}
+use Rattle.walk.proofs.Arrays.{length-from}
 use borrow.Author.Needs.{needs}
 use Rattle.row.proofs.rows.look_up.Statement.{statement}
 use Rattle.row.proofs.rows.look_up.Tie as tie

@@ -12,10 +12,10 @@ use Rattle.wire.specs.Read.{Bytes, Read, ok, bad}
 use Rattle.wire.specs.Bits.{mapBytes}
 use Rattle.column.specs.declared.column.Column.{Column}
 use Rattle.column.specs.Layout.{columnsFrom}
-use Rattle.row.specs.Presence.{Mark, mark, one, bitOf, marks, markOf, chapterPresent, clear, presenceBytes, nullables}
-use Rattle.row.specs.Rows.{opened}
-use Rattle.row.proofs.Laws.{bit-zero, opened-short, opened-bad, opened-well, bits-found, bits-next, bits-end}
-use Rattle.row.proofs.Arrays.{length-from, marked, bit-on, rest}
+use Rattle.walk.specs.Presence.{Mark, mark, one, bitOf, marks, markOf, chapterPresent, clear, presenceBytes, nullables}
+use Rattle.walk.specs.Rows.{opened}
+use Rattle.walk.proofs.Laws.{bit-zero, opened-short, opened-bad, opened-well, bits-found, bits-next, bits-end}
+use Rattle.walk.proofs.Arrays.{length-from, marked, bit-on, rest}
 use borrow.Author.Needs.{needs}
 use Rattle.row.proofs.rows.open_row.Statement.{statement}
 use Rattle.row.proofs.rows.open_row.Tie as tie

@@ -4,7 +4,7 @@ use Prim.Native.Nat.{ℕ}
 use mathlib.Core.Path.{ap, _∙_}
 use Rattle.wire.specs.Bits.{mapBytes}
 use Rattle.column.specs.Layout.{columnsFrom}
-use Rattle.row.specs.Presence.{presenceBytes, nullables}
+use Rattle.walk.specs.Presence.{presenceBytes, nullables}
 use borrow.Author.Needs.{needs}
 use Rattle.row.proofs.rows.presence_bytes.Statement.{statement}
 use Rattle.row.proofs.rows.presence_bytes.Tie as tie

@@ -9,12 +9,12 @@ use Rattle.wire.specs.Read.{Bytes, ok}
 use Rattle.wire.specs.Integers.{toldInt}
 use Rattle.column.specs.declared.column.Column.{Column}
 use Rattle.column.specs.Layout.{columnsFrom, columnsIn}
-use Rattle.row.specs.Presence.{present, marks}
-use Rattle.row.specs.Rows.{place, walk, opened, walked, rowEnd}
+use Rattle.walk.specs.Presence.{present, marks}
+use Rattle.walk.specs.Rows.{place, walk, opened, walked, rowEnd}
 use Rattle.row.specs.Told.{toldWalk}
-use Rattle.row.proofs.Laws.{end-closed, end-refused, end-reached}
-use Rattle.row.proofs.Found.{opened-ok, walked-from}
-use Rattle.row.proofs.Arrays.{length-from, rest}
+use Rattle.walk.proofs.Laws.{end-closed, end-refused, end-reached}
+use Rattle.walk.proofs.Found.{opened-ok, walked-from}
+use Rattle.walk.proofs.Arrays.{length-from, rest}
 use borrow.Author.Needs.{needs}
 use Rattle.row.proofs.rows.row_end.Statement.{statement}
 use Rattle.row.proofs.rows.row_end.Tie as tie

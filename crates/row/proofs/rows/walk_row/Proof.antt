@@ -11,10 +11,10 @@ use Rattle.column.specs.declared.column.Column.{Column}
 use Rattle.column.specs.Columns.{isNullable}
 use Rattle.column.specs.Fields.{fieldAt, toldField}
 use Rattle.column.specs.Layout.{columnsFrom}
-use Rattle.row.specs.Presence.{one, bitOf, marks, markOf, present, noColumn}
-use Rattle.row.specs.Rows.{place, walk, step}
-use Rattle.row.proofs.Laws.{bit-zero, length-marks, walk-zero, walk-least, walk-ended, columns-next, step-absent, step-field, step-refused}
-use Rattle.row.proofs.Arrays.{length-from, asked, marked, bit-on, few-prefixes}
+use Rattle.walk.specs.Presence.{one, bitOf, marks, markOf, present, noColumn}
+use Rattle.walk.specs.Rows.{place, walk, step}
+use Rattle.walk.proofs.Laws.{bit-zero, length-marks, walk-zero, walk-least, walk-ended, columns-next, step-absent, step-field, step-refused}
+use Rattle.walk.proofs.Arrays.{length-from, asked, marked, bit-on, few-prefixes}
 use borrow.Author.Needs.{needs}
 use Rattle.row.proofs.rows.walk_row.Statement.{statement}
 use Rattle.row.proofs.rows.walk_row.Tie as tie

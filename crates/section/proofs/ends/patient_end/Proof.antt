@@ -8,8 +8,8 @@ use lib.ListN.{getD}
 use Rattle.column.specs.declared.column.Column.{Column}
 use Rattle.column.specs.Layout.{columnsIn}
 use Rattle.tree.specs.Table.{schemaSlot, startIn, countIn}
-use Rattle.row.specs.Rows.{rowEnd}
-use Rattle.row.specs.Updates.{updateEnd}
+use Rattle.walk.specs.Rows.{rowEnd}
+use Rattle.walk.specs.Updates.{updateEnd}
 use Rattle.section.specs.Shapes.{slotColumns}
 use Rattle.section.proofs.Slots.{columns-held}
 use borrow.Author.Needs.{needs}

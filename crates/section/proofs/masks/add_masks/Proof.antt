@@ -3,8 +3,8 @@
 use Prim.Native.Nat.{_-_, _≤_}
 use mathlib.Core.Path.{_≡_, sym}
 use native.Mathlib.Omega.{arith}
-use Rattle.row.specs.Presence.{bitOf}
-use Rattle.row.proofs.Laws.{bit-zero}
+use Rattle.walk.specs.Presence.{bitOf}
+use Rattle.walk.proofs.Laws.{bit-zero}
 use Rattle.section.proofs.Slots.{inSlots, length-slots, slot-bit}
 use Rattle.section.proofs.MaskLaws.{Masking, mask-start, mask-next, mask-end}
 use borrow.Author.Needs.{needs}

@@ -7,7 +7,7 @@ use native.Mathlib.Omega.{arith}
 use lib.Dec.{ltb}
 use lib.ListN.{getD}
 use Rattle.column.proofs.Stops.{width-few}
-use Rattle.row.specs.Presence.{one}
+use Rattle.walk.specs.Presence.{one}
 use Rattle.section.proofs.Slots.{inSlots, length-slots, slot-at}
 use Rattle.section.proofs.StopsMade.{Growing, one-most, grow-start, grow-stop, grow-plain, grow-fits, grow-end}
 use borrow.Author.Needs.{needs}

@@ -1,0 +1,7 @@
+pub mod Presence
+pub mod Rows
+pub mod Updates
+pub mod Parts
+pub mod Leaps
+-- Inner.
+pub mod Examples
