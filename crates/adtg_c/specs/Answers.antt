@@ -8,7 +8,7 @@ use Rattle.wire.specs.Errors.{inputNumber}
 use Rattle.wire.specs.Read.{Read, ok, bad}
 use Rattle.questions.specs.Questions.{Counts, Asked}
 use Rattle.header.specs.declared.header.Header.{Header}
-use Rattle.header.specs.declared.options.Options.{Options}
+use Rattle.options.specs.declared.options.Options.{Options}
 
 -- 0, or the code of the error
 abbrev pub statusOf : {A : Type 0} → Read A → ℕ

@@ -3,7 +3,7 @@ ghost use lib.ListN.{length};
 ghost use mathlib.Core.Path.{_≡_};
 ghost use Rattle.wire.specs.Output.{sizeOf, outputAfter};
 ghost use Rattle.header.specs.Header.{headerOf, headerWritten};
-ghost use Rattle.header.specs.Options.{optionsOf, optionsWritten};
+ghost use Rattle.options.specs.Options.{optionsOf, optionsWritten};
 ghost use Rattle.adtg_c.specs.Answers.{Answered, headerValues, optionsValues, sizeValues};
 use crate::answer::answer_written;
 use crate::answer::refuse;
@@ -11,9 +11,9 @@ use header::header::HeaderRead;
 use header::header::read_header;
 use header::header::write_header;
 use header::header::write_header_short;
-use header::options::OptionsRead;
-use header::options::read_options;
-use header::options::write_options;
+use options::options::OptionsRead;
+use options::options::read_options;
+use options::options::write_options;
 
 // The header at the start of `bytes`: major, minor, byte order, unicode, end.
 #[no_mangle]

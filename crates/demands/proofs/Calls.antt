@@ -13,7 +13,7 @@ use Rattle.wire.specs.Read.{Bytes, Read, about, limit}
 use Rattle.wire.proofs.Pieces.{bad-ok}
 use Rattle.grammar.specs.Grammar.{Row}
 use Rattle.header.specs.Header.{headerOf, headerWritten}
-use Rattle.header.specs.Options.{optionsOf, optionsWritten}
+use Rattle.options.specs.Options.{optionsOf, optionsWritten}
 use Rattle.questions.specs.Questions.{countsOf, columnCountOf, columnOf, childOf}
 use Rattle.numbers.specs.Writer.{coded, numbersListed, fileWritten}
 use Rattle.section.specs.Table.{rowsRead}

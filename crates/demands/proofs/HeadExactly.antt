@@ -18,11 +18,12 @@ use Rattle.wire.specs.Integers.{intAt, readInt, intBytes}
 use Rattle.wire.specs.Output.{fitting}
 use Rattle.wire.proofs.Laws.{length-int, whole-fits, whole-short, byte-fits, byte-short, int-fits, sized-within}
 use Rattle.wire.proofs.Pieces.{Piece, front, back, bad-ok, ok-ok, bind-bind, check-ok, whole-ok, constants-is, int-is, piece-from}
-use Rattle.header.specs.declared.options.Spans.{Spans}
-use Rattle.header.specs.declared.options.Options.{Options}
+use Rattle.options.specs.declared.options.Spans.{Spans}
+use Rattle.options.specs.declared.options.Options.{Options}
 use Rattle.header.specs.Header.{signature, headerAs, headerFields, headerOf, headerBytes, headerWritten}
-use Rattle.header.specs.Options.{token, guid, asyncAllowed, spanFrom, spansAs, optionsAs, spanAt, spansOf, asyncRest, optionsRest, optionsSized, optionsOf, stringBytes, headBytes, optionsBytes, stringsSize, optionsSize, optionsWritten}
-use Rattle.header.proofs.Laws.{fields-short, length-string, length-options}
+use Rattle.options.specs.Options.{token, guid, asyncAllowed, spanFrom, spansAs, optionsAs, spanAt, spansOf, asyncRest, optionsRest, optionsSized, optionsOf, stringBytes, headBytes, optionsBytes, stringsSize, optionsSize, optionsWritten}
+use Rattle.header.proofs.Laws.{fields-short}
+use Rattle.options.proofs.Laws.{length-string, length-options}
 use Rattle.demands.specs.Checks.{Refusals, Never, _then_, Exactly, Faults, Of, of, lent, Sizes, Short, short, NoRoom, no-room}
 use Rattle.demands.specs.HeadFaults.{Agree, ConstantFault, ends, differs, ValueFault, below, above, SizeFault, wrong-size, HeaderFaults, sizeField, stringEnd, firstEnd, secondEnd, thirdEnd, NotFilled, in-first, in-second, in-third, in-async, OptionsFaults, HeaderWriteFaults, OptionsWriteFaults, RefusesAs}
 use Rattle.demands.proofs.Exactly.{never-short, never-room, exactly-fitting, exactly-then, exactly-last, exactly-alike, exactly-about, exactly-check, exactly-whole, exactly-room, exactly-size, exactly-sized, over-iff, never-then, never-of}

@@ -29,12 +29,13 @@ use Rattle.column.specs.declared.field.Field.{Field}
 use Rattle.column.specs.Types.{types, kindIn, kindOf}
 use Rattle.column.specs.Columns.{isNullable, prefixSize, prefixBytes, greatest, lengthErrorOf, lengthError}
 use Rattle.header.specs.declared.header.Header.{Header}
-use Rattle.header.specs.declared.options.Options.{Options}
+use Rattle.options.specs.declared.options.Options.{Options}
 use Rattle.header.specs.Header.{signature, headerAs, headerFields, headerBytes, headerOf, headerWritten}
-use Rattle.header.specs.Options.{asyncAllowed, optionsOf, stringBytes, headBytes, optionsBytes, stringsSize, optionsSize, optionsWritten, textOf}
-use Rattle.header.proofs.Laws.{options-sized}
-use Rattle.header.proofs.Trips.{OptionsBack}
+use Rattle.options.specs.Options.{asyncAllowed, optionsOf, stringBytes, headBytes, optionsBytes, stringsSize, optionsSize, optionsWritten, textOf}
+use Rattle.options.proofs.Laws.{options-sized}
+use Rattle.options.proofs.Trips.{OptionsBack}
 use Rattle.header.proofs.Trips as header
+use Rattle.options.proofs.Trips as options
 use Rattle.tree.specs.Numbers.{groups, thirdGroup, secondGroup, numberIn}
 use Rattle.tree.specs.Tree.{member, numbers}
 use Rattle.tree.specs.Reader.{readNumber, readRange, readFixed, readVariable, readChapter, readKind, readColumn, readColumns, readSchema, ended, readFile, fileOf}
@@ -168,7 +169,7 @@ options-read-back first second third async written out e l =
     let room : length written ≤ length out = fitted _ (length out) written f in
     let small : async ≤ 3 = options-async first second third async (length out) written e in
     rw (laid-start _ written out e room)
-    (header.options-read-back first second third async (length out) written (drop (0 + length written) out) (omega arith) e (part-within out 0 written (omega arith) l))
+    (options.options-read-back first second third async (length out) written (drop (0 + length written) out) (omega arith) e (part-within out 0 written (omega arith) l))
 
 -- Options that were read with update type 1 are written back as the same bytes.
 pub options-rewritten :
@@ -176,7 +177,7 @@ pub options-rewritten :
     (optionsWritten (textOf s (o .strings .first)) (textOf s (o .strings .second)) (textOf s (o .strings .third)) (o .asynchronous) (length out) ≡ ok (take (o .end) s))
     × (optionsOutput (textOf s (o .strings .first)) (textOf s (o .strings .second)) (textOf s (o .strings .third)) (o .asynchronous) out ≡ laid out 0 (take (o .end) s))
 options-rewritten s o out bytes e one room =
-    let w = header.options-rewritten s o (length out) bytes e one room in
+    let w = options.options-rewritten s o (length out) bytes e one room in
     (w, laid-start _ (take (o .end) s) out w (taken s (o .end) (length out) room))
 
 -- Schema files.

@@ -11,7 +11,7 @@ use Rattle.wire.specs.declared.error.Input.the-variants as input
 use Rattle.wire.specs.Read.{Bytes, Read, bad}
 use Rattle.wire.specs.Integers.{intAt}
 use Rattle.header.specs.Header.{signature}
-use Rattle.header.specs.Options.{token, guid}
+use Rattle.options.specs.Options.{token, guid}
 use Rattle.demands.specs.Checks.{Refusals, _then_, Of, Short, NoRoom}
 
 -- the first k bytes from `at` on are the expected ones

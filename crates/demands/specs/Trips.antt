@@ -8,7 +8,7 @@ use Rattle.wire.specs.Read.{Bytes, AreBytes, Read, ok, limit}
 use Rattle.wire.specs.Output.{outputAfter}
 use Rattle.column.specs.declared.column.Column.{Column}
 use Rattle.header.specs.Header.{headerWritten}
-use Rattle.header.specs.Options.{optionsWritten}
+use Rattle.options.specs.Options.{optionsWritten}
 use Rattle.numbers.specs.Writer.{fileWritten, numbersListed}
 use Rattle.walk.specs.Presence.{noColumn}
 use Rattle.walk.specs.Rows.{Answer}

@@ -1,9 +1,9 @@
 // Examples of header and handler options.
 use header::header::HeaderRead;
 use header::header::read_header;
-use header::options::OptionsRead;
-use header::options::Span;
-use header::options::read_options;
+use options::options::OptionsRead;
+use options::options::Span;
+use options::options::read_options;
 use wire::error::Error;
 
 const OUT: i32 = 1;

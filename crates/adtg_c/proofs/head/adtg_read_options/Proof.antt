@@ -1,7 +1,7 @@
 -- The numbers are those of what the reader says.
 -- Assumes nothing.
 use mathlib.Core.Path.{refl, sym, ap, _∙_}
-use Rattle.header.specs.Options.{toldOptions}
+use Rattle.options.specs.Options.{toldOptions}
 use Rattle.adtg_c.specs.Answers.{optionsValues}
 use Rattle.adtg_c.proofs.Laws.{answered-error, answered-value}
 use borrow.Author.Needs.{needs}

@@ -2,10 +2,10 @@
 -- Assumes nothing.
 use borrow.Author.Tests.{le-leb, lt-leb}
 use Rattle.wire.specs.Read.{check, about, sizedBy}
-use Rattle.header.specs.Options.{stringsSize}
+use Rattle.options.specs.Options.{stringsSize}
 use borrow.Author.Needs.{needs}
-use Rattle.header.proofs.options.size_strings.Statement.{statement}
-use Rattle.header.proofs.options.size_strings.Tie as tie
+use Rattle.options.proofs.options.size_strings.Statement.{statement}
+use Rattle.options.proofs.options.size_strings.Tie as tie
 
 returns : tie.Need-returns
 unfolding stringsSize sizedBy check about

@@ -8,12 +8,12 @@ use Rattle.wire.specs.Read.{Bytes}
 use Rattle.wire.specs.Integers.{intBytes}
 use Rattle.wire.specs.Output.{put}
 use Rattle.wire.proofs.Laws.{put-not, put-next}
-use Rattle.header.specs.Options.{token, guid, headBytes}
-use Rattle.header.proofs.Laws.{length-head}
+use Rattle.options.specs.Options.{token, guid, headBytes}
+use Rattle.options.proofs.Laws.{length-head}
 use borrow.Author.Needs.{needs}
 use native.Mathlib.Omega.{arith}
-use Rattle.header.proofs.options.put_head.Statement.{statement}
-use Rattle.header.proofs.options.put_head.Tie as tie
+use Rattle.options.proofs.options.put_head.Statement.{statement}
+use Rattle.options.proofs.options.put_head.Tie as tie
 
 returns : tie.Need-returns
 returns c =

@@ -6,11 +6,11 @@ use lib.ListN.{length}
 use borrow.Author.Tests.{le-leb, lt-leb}
 use Rattle.wire.specs.Read.{check, toldMatch}
 use Rattle.wire.proofs.Laws.{lacked-lt, enough-le, whole-short, whole-fits}
-use Rattle.header.specs.Options.{optionsSized}
+use Rattle.options.specs.Options.{optionsSized}
 use borrow.Author.Needs.{needs}
 use native.Mathlib.Omega.{arith}
-use Rattle.header.proofs.options.read_sized.Statement.{statement}
-use Rattle.header.proofs.options.read_sized.Tie as tie
+use Rattle.options.proofs.options.read_sized.Statement.{statement}
+use Rattle.options.proofs.options.read_sized.Tie as tie
 
 returns : tie.Need-returns
 unfolding optionsSized

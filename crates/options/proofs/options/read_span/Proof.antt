@@ -5,11 +5,11 @@ use mathlib.Core.Path.{_≡_, sym, ap, _∙_}
 use Rattle.wire.specs.Read.{check}
 use Rattle.wire.specs.Integers.{toldInt}
 use Rattle.wire.proofs.Laws.{lacked, enough, enough-le}
-use Rattle.header.specs.Options.{spanAt}
+use Rattle.options.specs.Options.{spanAt}
 use borrow.Author.Needs.{needs}
 use native.Mathlib.Omega.{arith}
-use Rattle.header.proofs.options.read_span.Statement.{statement}
-use Rattle.header.proofs.options.read_span.Tie as tie
+use Rattle.options.proofs.options.read_span.Statement.{statement}
+use Rattle.options.proofs.options.read_span.Tie as tie
 
 returns : tie.Need-returns
 unfolding spanAt check

@@ -3,7 +3,7 @@
 ghost use mathlib.Core.Path.{_≡_};
 ghost use lib.ListN.{length};
 ghost use Rattle.wire.specs.Output.{Wrote, put};
-ghost use Rattle.header.specs.Options.{asyncAllowed, spanAt, spansOf, asyncRest, optionsRest, optionsSized, optionsOf, stringBytes, headBytes, stringsSize, optionsSize, optionsWritten, toldSpan, toldSpans, toldOptions, toldSize};
+ghost use Rattle.options.specs.Options.{asyncAllowed, spanAt, spansOf, asyncRest, optionsRest, optionsSized, optionsOf, stringBytes, headBytes, stringsSize, optionsSize, optionsWritten, toldSpan, toldSpans, toldOptions, toldSize};
 use wire::LIMIT;
 use wire::bytes::Matched;
 use wire::bytes::copy_into;

@@ -9,17 +9,17 @@ use Rattle.wire.specs.declared.error.Input.the-variants as input
 use Rattle.wire.specs.Read.{Bytes, Read, ok, bad, _>>=_, pick, check, about, refused, sizedBy, sized, cut, whole, byteAt, constants}
 use Rattle.wire.specs.Integers.{readInt, intBytes}
 use Rattle.wire.specs.Output.{fitting}
-use Rattle.header.specs.declared.options.Span.{Span}
-use Rattle.header.specs.declared.options.Spans.{Spans}
-use Rattle.header.specs.declared.options.Options.{Options}
-use Rattle.header.specs.declared.options.SpanRead.{SpanRead}
-use Rattle.header.specs.declared.options.SpanRead.the-variants as span
-use Rattle.header.specs.declared.options.SpansRead.{SpansRead}
-use Rattle.header.specs.declared.options.SpansRead.the-variants as spans
-use Rattle.header.specs.declared.options.OptionsRead.{OptionsRead}
-use Rattle.header.specs.declared.options.OptionsRead.the-variants as options
-use Rattle.header.specs.declared.options.SizeCheck.{SizeCheck}
-use Rattle.header.specs.declared.options.SizeCheck.the-variants as size
+use Rattle.options.specs.declared.options.Span.{Span}
+use Rattle.options.specs.declared.options.Spans.{Spans}
+use Rattle.options.specs.declared.options.Options.{Options}
+use Rattle.options.specs.declared.options.SpanRead.{SpanRead}
+use Rattle.options.specs.declared.options.SpanRead.the-variants as span
+use Rattle.options.specs.declared.options.SpansRead.{SpansRead}
+use Rattle.options.specs.declared.options.SpansRead.the-variants as spans
+use Rattle.options.specs.declared.options.OptionsRead.{OptionsRead}
+use Rattle.options.specs.declared.options.OptionsRead.the-variants as options
+use Rattle.options.specs.declared.options.SizeCheck.{SizeCheck}
+use Rattle.options.specs.declared.options.SizeCheck.the-variants as size
 
 abbrev pub token : Bytes
 token = 0x02 ∷ []

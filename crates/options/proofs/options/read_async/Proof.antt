@@ -5,11 +5,11 @@ use mathlib.Core.Path.{_≡_, sym, ap, _∙_}
 use borrow.Author.Tests.{eq-eqb, ne-eqb}
 use Rattle.wire.specs.Read.{check}
 use Rattle.wire.specs.Integers.{toldInt}
-use Rattle.header.specs.Options.{asyncRest}
+use Rattle.options.specs.Options.{asyncRest}
 use borrow.Author.Needs.{needs}
 use native.Mathlib.Omega.{arith}
-use Rattle.header.proofs.options.read_async.Statement.{statement}
-use Rattle.header.proofs.options.read_async.Tie as tie
+use Rattle.options.proofs.options.read_async.Statement.{statement}
+use Rattle.options.proofs.options.read_async.Tie as tie
 
 returns : tie.Need-returns
 unfolding asyncRest check

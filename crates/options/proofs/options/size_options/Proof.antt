@@ -2,12 +2,12 @@
 -- Assumes nothing.
 use mathlib.Core.Path.{sym, ap, _∙_}
 use Rattle.wire.specs.Read.{check, about}
-use Rattle.header.specs.Options.{optionsSize, toldSize}
-use Rattle.header.proofs.Laws.{strings-sizes}
+use Rattle.options.specs.Options.{optionsSize, toldSize}
+use Rattle.options.proofs.Laws.{strings-sizes}
 use borrow.Author.Needs.{needs}
 use native.Mathlib.Omega.{arith}
-use Rattle.header.proofs.options.size_options.Statement.{statement}
-use Rattle.header.proofs.options.size_options.Tie as tie
+use Rattle.options.proofs.options.size_options.Statement.{statement}
+use Rattle.options.proofs.options.size_options.Tie as tie
 
 add-t12 : tie.Need-add-t12
 add-t12 c =

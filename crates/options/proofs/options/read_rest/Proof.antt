@@ -3,10 +3,10 @@
 use mathlib.Core.Path.{sym, ap, _∙_}
 use Rattle.wire.specs.Integers.{toldInt}
 use Rattle.wire.proofs.Laws.{byte-int}
-use Rattle.header.specs.Options.{optionsRest, toldSpans}
+use Rattle.options.specs.Options.{optionsRest, toldSpans}
 use borrow.Author.Needs.{needs}
-use Rattle.header.proofs.options.read_rest.Statement.{statement}
-use Rattle.header.proofs.options.read_rest.Tie as tie
+use Rattle.options.proofs.options.read_rest.Statement.{statement}
+use Rattle.options.proofs.options.read_rest.Tie as tie
 
 returns : tie.Need-returns
 unfolding optionsRest

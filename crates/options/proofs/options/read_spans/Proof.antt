@@ -1,10 +1,10 @@
 -- Each way out is the definition's: the strings that were read, up to the first error.
 -- Assumes nothing.
 use mathlib.Core.Path.{sym, ap, _∙_}
-use Rattle.header.specs.Options.{spansOf, toldSpan}
+use Rattle.options.specs.Options.{spansOf, toldSpan}
 use borrow.Author.Needs.{needs}
-use Rattle.header.proofs.options.read_spans.Statement.{statement}
-use Rattle.header.proofs.options.read_spans.Tie as tie
+use Rattle.options.proofs.options.read_spans.Statement.{statement}
+use Rattle.options.proofs.options.read_spans.Tie as tie
 
 returns : tie.Need-returns
 unfolding spansOf

@@ -5,10 +5,10 @@ use lib.ListN.{length}
 use Rattle.wire.specs.Read.{toldMatch}
 use Rattle.wire.specs.Integers.{toldInt}
 use Rattle.wire.proofs.Laws.{sized-over, sized-within}
-use Rattle.header.specs.Options.{optionsOf}
+use Rattle.options.specs.Options.{optionsOf}
 use borrow.Author.Needs.{needs}
-use Rattle.header.proofs.options.read_options.Statement.{statement}
-use Rattle.header.proofs.options.read_options.Tie as tie
+use Rattle.options.proofs.options.read_options.Statement.{statement}
+use Rattle.options.proofs.options.read_options.Tie as tie
 
 returns : tie.Need-returns
 unfolding optionsOf

@@ -7,12 +7,12 @@ use Rattle.wire.specs.Read.{Bytes}
 use Rattle.wire.specs.Integers.{intBytes}
 use Rattle.wire.specs.Output.{put}
 use Rattle.wire.proofs.Laws.{lacked-lt, enough-le, put-not, put-put}
-use Rattle.header.specs.Options.{stringBytes}
-use Rattle.header.proofs.Laws.{length-string}
+use Rattle.options.specs.Options.{stringBytes}
+use Rattle.options.proofs.Laws.{length-string}
 use borrow.Author.Needs.{needs}
 use native.Mathlib.Omega.{arith}
-use Rattle.header.proofs.options.put_string.Statement.{statement}
-use Rattle.header.proofs.options.put_string.Tie as tie
+use Rattle.options.proofs.options.put_string.Statement.{statement}
+use Rattle.options.proofs.options.put_string.Tie as tie
 
 -- there is room for both
 room : (c : tie.Else1) → c .before .before .before .before .args .at + (2 + length (c .before .before .before .before .args .string .now)) ≤ length (c .before .before .before .before .args .out .now)

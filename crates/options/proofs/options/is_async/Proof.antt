@@ -1,9 +1,9 @@
 -- Each way out decides the definition's two tests.
 -- Assumes nothing.
 use borrow.Author.Tests.{le-leb, lt-leb}
-use Rattle.header.specs.Options.{asyncAllowed}
-use Rattle.header.proofs.options.is_async.Statement.{statement}
-use Rattle.header.proofs.options.is_async.Tie as tie
+use Rattle.options.specs.Options.{asyncAllowed}
+use Rattle.options.proofs.options.is_async.Statement.{statement}
+use Rattle.options.proofs.options.is_async.Tie as tie
 
 returns : tie.Need-returns
 unfolding asyncAllowed

@@ -7,12 +7,12 @@ use Rattle.wire.specs.Read.{Bytes, Read, ok}
 use Rattle.wire.specs.Integers.{intBytes}
 use Rattle.wire.specs.Output.{put, fitting}
 use Rattle.wire.proofs.Laws.{wrote-error, wrote-piece, fitting-fits, fitting-not}
-use Rattle.header.specs.Options.{headBytes, optionsBytes, optionsSize, optionsWritten, toldSize}
-use Rattle.header.proofs.Laws.{Sized, options-sized, length-options, options-laid}
+use Rattle.options.specs.Options.{headBytes, optionsBytes, optionsSize, optionsWritten, toldSize}
+use Rattle.options.proofs.Laws.{Sized, options-sized, length-options, options-laid}
 use borrow.Author.Needs.{needs}
 use native.Mathlib.Omega.{arith}
-use Rattle.header.proofs.options.write_options.Statement.{statement}
-use Rattle.header.proofs.options.write_options.Tie as tie
+use Rattle.options.proofs.options.write_options.Statement.{statement}
+use Rattle.options.proofs.options.write_options.Tie as tie
 
 -- the strings and the async option are allowed, and the size is their sum
 allowed :
