@@ -1,8 +1,8 @@
 // The numbers that a schema file is made of, listed into a caller's table.
 ghost use lib.ListN.{length};
 ghost use Rattle.numbers.specs.Writer.{CountIs, ListIs, Lists, numbersListed};
-use schema::number::NumberRead;
-use schema::number::number_at;
+use entry::number::NumberRead;
+use entry::number::number_at;
 use schema::reader::PlaceRead;
 use schema::reader::read_file;
 use wire::error::Error;

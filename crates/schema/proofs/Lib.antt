@@ -1,4 +1,3 @@
-pub mod Heads
 pub mod Reading
-pub mod UsualForms
+pub mod Running
 pub mod Tabled

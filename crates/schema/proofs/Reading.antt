@@ -19,7 +19,7 @@ use Rattle.column.specs.declared.types.Kind.the-variants.{Fixed, Variable, Wide
 use Rattle.column.specs.Types.{chapterCode, kindOf}
 use Rattle.tree.specs.Numbers.{Found, found, numberAt}
 use Rattle.tree.specs.Filling.{Filled, filled, moved, holding, rangeAt, fillFixed, fillVariable, fillChapter, fillKind, fillColumn, fillColumns, fillSchema}
-use Rattle.schema.specs.Heads.{Head, fieldHead, idHead, fixedHead, variableHead, chapterHead, headBy, headAt}
+use Rattle.entry.specs.Heads.{Head, fieldHead, idHead, fixedHead, variableHead, chapterHead, headBy, headAt}
 use Rattle.schema.specs.declared.reader.PlaceRead.{PlaceRead}
 use Rattle.schema.specs.declared.reader.PlaceRead.the-variants.{Read as read, Refused}
 use Rattle.schema.specs.Told.{Moves}

@@ -1,4 +1,3 @@
 pub mod Told
 -- Inner.
-pub mod Heads
-pub mod Usual
+pub mod Runs

@@ -5,21 +5,13 @@ use mathlib.Core.Path.{_≡_}
 use mathlib.Core.List.{List}
 use lib.ListN.{length, replicate}
 use Rattle.wire.specs.Read.{Bytes, Read, ok, bad, refused}
-use Rattle.schema.specs.declared.number.NumberRead.{NumberRead}
-use Rattle.schema.specs.declared.number.NumberRead.the-variants as number
 use Rattle.schema.specs.declared.reader.Place.{Place}
 use Rattle.schema.specs.declared.reader.PlaceRead.{PlaceRead}
 use Rattle.schema.specs.declared.reader.PlaceRead.the-variants.{Read as read, Refused}
 use Rattle.schema.specs.declared.reader.FileTable.{FileTable}
-use Rattle.tree.specs.Numbers.{Found, found}
 use Rattle.tree.specs.Tree.{mostFileColumns}
 use Rattle.tree.specs.Table.{tableSize}
 use Rattle.tree.specs.Filling.{Filled, filled, fillFile}
-
--- a number and the offset behind it
-abbrev pub toldNumber : NumberRead → Read Found
-toldNumber (number.Number value end) = ok (found value end)
-toldNumber (number.Refused e) = refused e
 
 -- a place with its table
 abbrev pub placed : Place → List ℕ → Filled

@@ -2,19 +2,11 @@
 // the writer in crate `numbers`.
 
 pub mod columns;
-pub mod head;
-pub mod number;
 pub mod reader;
-pub mod usual;
+pub mod runs;
 
 // The most columns of a file, and so the most schemas: a table has as many slots for each.
 pub const MOST_FILE_COLUMNS: usize = 256;
 
 // The greatest depth of a file, with the top schema at depth 1.
 pub const MOST_DEPTH: usize = 4;
-
-// The greatest flags of a column: 1 for nullable.
-pub const MOST_FLAGS: usize = 1;
-
-// The greatest maximum length of a column.
-pub const MOST_MAXIMUM: usize = 32_767;

@@ -5,7 +5,7 @@ use mathlib.Core.Path.{_≡_, sym, ap, _∙_}
 use lib.ListN.{length}
 use Rattle.wire.specs.Read.{ok}
 use Rattle.tree.specs.Numbers.{found, numberAt}
-use Rattle.schema.specs.Told.{toldNumber}
+use Rattle.entry.specs.Heads.{toldNumber}
 use Rattle.tree.proofs.Offsets.{number-inside}
 use Rattle.numbers.proofs.Listed.{Counted, counted-start, counted-end, counted-never, counted-next}
 use borrow.Author.Needs.{needs}

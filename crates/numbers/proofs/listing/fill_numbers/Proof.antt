@@ -5,7 +5,7 @@ use mathlib.Core.Path.{_≡_, refl, sym, ap, _∙_}
 use lib.ListN.{length, length-set}
 use Rattle.wire.specs.Read.{ok}
 use Rattle.tree.specs.Numbers.{found, numberAt}
-use Rattle.schema.specs.Told.{toldNumber}
+use Rattle.entry.specs.Heads.{toldNumber}
 use Rattle.tree.proofs.Offsets.{number-inside, number-small}
 use Rattle.numbers.proofs.Listed.{Filling, filling-start, filling-full, filling-end, filling-never, filling-next}
 use borrow.Author.Needs.{needs}

@@ -8,12 +8,12 @@ use lib.ListN.{length, set}
 use Rattle.wire.specs.Read.{Bytes, ok}
 use Rattle.tree.specs.Table.{packed, block}
 use Rattle.tree.specs.Filling.{filled, fillColumns, fillSchema}
-use Rattle.schema.specs.Heads.{fieldHead, idHead, headAt, toldHead}
-use Rattle.schema.specs.Told.{toldNumber, placed, Ready, Onward, toldPlace}
+use Rattle.entry.specs.Heads.{fieldHead, idHead, headAt, toldHead, toldNumber}
+use Rattle.schema.specs.Told.{placed, Ready, Onward, toldPlace}
 use Rattle.schema.specs.declared.reader.PlaceRead.{PlaceRead}
-use Rattle.schema.proofs.Heads.{head-inside, head-small, range-inside}
+use Rattle.entry.proofs.Heads.{head-inside, head-small, range-inside}
 use Rattle.schema.proofs.Reading.{column-refused, column-filled, chapter-seen, chapter-new, moves-from, schema-deep, schema-refused, schema-over, loop-next, loop-refused, loop-ends}
-use Rattle.schema.proofs.UsualForms.{behind, run-on}
+use Rattle.schema.proofs.Running.{behind, run-on}
 use borrow.Author.Needs.{needs}
 use native.Mathlib.Omega.{arith}
 use borrow.Fn.Kinds.{In}
@@ -24,12 +24,12 @@ use Rattle.schema.proofs.reader.+read_column+read_schema.Lts-read_colum
 use Rattle.schema.proofs.reader.read_schema.Reads as read-schema
 use Rattle.schema.proofs.reader.read_schema.Kinds as read-schema-kinds
 use Rattle.schema.proofs.reader.+read_column+read_schema.Lts-read_schema as read-schema-lts
-use Rattle.schema.proofs.head.head_at.Reads as head-at-reads
-use Rattle.schema.proofs.number.range_at.Reads as range-at-reads
+use Rattle.entry.proofs.head.head_at.Reads as head-at-reads
+use Rattle.entry.proofs.number.range_at.Reads as range-at-reads
 use Rattle.schema.proofs.reader.block.Reads as block-reads
 use Rattle.schema.proofs.reader.is_seen.Reads as is-seen-reads
 use Rattle.schema.proofs.reader.packed.Reads as packed-reads
-use Rattle.schema.proofs.usual.read_usual.Reads as read-usual-reads
+use Rattle.schema.proofs.runs.read_usual.Reads as read-usual-reads
 use Rattle.schema.proofs.reader.+read_column+read_schema.{statement}
 use Rattle.schema.proofs.reader.+read_column+read_schema.Tie.{close}
 

@@ -1,0 +1,27 @@
+-- Promise: columns in the usual form, which code reads quickly. What it says is what the reader says; of a column it may say nothing.
+-- Assumes nothing.
+use Prim.Native.Nat.{ℕ, _-_}
+use mathlib.Core.Path.{_≡_}
+use Rattle.wire.specs.Read.{Bytes, Read, ok}
+use Rattle.column.specs.Types.{kindOf}
+use Rattle.entry.specs.declared.usual.Usual.{Usual}
+use Rattle.entry.specs.declared.usual.Usual.the-variants.{Column, Unusual}
+use Rattle.tree.specs.Table.{packed}
+use Rattle.entry.specs.Heads.{Head, fieldHead, headBy}
+
+-- a column that was read is in the one number `slot` and ends at `end`
+pub record Slotted (h : Read Head) (slot end : ℕ) : Type 0 where
+  pub code : ℕ
+  pub flags : ℕ
+  pub maximum : ℕ
+  pub head : h ≡ ok (fieldHead code flags maximum end)
+  pub holds : slot ≡ packed code flags maximum 0
+
+-- what a `Usual` says
+abbrev pub Says : Read Head → Usual → Type 0
+Says h (Column slot end) = Slotted h slot end
+Says h Unusual = Unit {0}
+
+-- the same of a column behind its code, wherever that stands
+abbrev pub SaysBehind : Bytes → (code at : ℕ) → Usual → Type 0
+SaysBehind b code at r = (from : ℕ) → Says (headBy (kindOf code) b code from at) r
