@@ -60,9 +60,11 @@ module _ (word : ℕ) (row : Bytes) (bits : ℕ) (b : BitsOf row bits) {n : ℕ}
   -- Past a stop of fixed width.
   pub passed-fixed :
       (w : Place) {g s : ℕ} → g ≡ stopIn word .gap → s ≡ stopIn word .size → stopIn word .variable ≡ false →
-      ok (place (w .at + g + s * n) (w .prefixes)) ≡ passed (bitSet row) row (byBit (stopIn word)) w
+      ok (place (w .at + (g + s * n)) (w .prefixes)) ≡ passed (bitSet row) row (byBit (stopIn word)) w
   unfolding passed byBit spanAt spanError
-  passed-fixed w {g} {s} eg es v = rw (stop-bit, eg, es, v) (go (bitSet row (stopIn word .bit)))
+  passed-fixed w {g} {s} eg es v =
+      let z : w .at + (g + s * n) ≡ w .at + g + s * n = omega (arith) in
+      ap (λ (q : ℕ). ok (place q (w .prefixes))) z ∙ rw (stop-bit, eg, es, v) (go (bitSet row (stopIn word .bit)))
     where
       go :
           (t : Bool) →

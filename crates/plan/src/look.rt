@@ -113,18 +113,18 @@ fn pass(word: usize, bits: u64, row: &[u8], at: usize, prefixes: usize) -> WalkR
     ensures answers { λ r. ⌜ toldWalk r ≡ passed (bitSet (now (row .entry))) (now (row .entry)) (byBit (stopIn word)) (place at prefixes) ⌝ }
     ensures near { λ r. ⌜ Near (at + 4295032836) prefixes r ⌝ }
 {
-    let start = at + stop::gap_in(word);
+    let gap = stop::gap_in(word);
     if is_variable_in(word) {
         if is_there(word, bits, row) {
-            return hop(word, row, start, prefixes);
+            return hop(word, row, at + gap, prefixes);
         }
         return WalkRead::At {
-            position: start,
+            position: at + gap,
             prefixes: prefixes,
         };
     }
     WalkRead::At {
-        position: start + size_in(word) * bit_on(word, bits),
+        position: at + (gap + size_in(word) * bit_on(word, bits)),
         prefixes: prefixes,
     }
 }
@@ -338,6 +338,18 @@ fn open_map(plan: &[usize; 131], row: &[u8]) -> IntRead
     }
 }
 
+// The same, at once where a plan has no nullable chapter, as most have none.
+fn open_plain(plan: &[usize; 131], row: &[u8]) -> IntRead
+    ensures { λ r. ⌜ toldInt r ≡ plannedOpen (lent (now (plan .entry))) (now (row .entry)) ⌝ }
+{
+    if plan[CHAPTERS] == 0 {
+        if plan[MAP] <= row.len() {
+            return IntRead::Int(plan[MAP]);
+        }
+    }
+    open_map(plan, row)
+}
+
 // The same error, about the row, of a row that does not open.
 fn not_open(e: Error) -> IntRead
     ensures { λ r. ⌜ r ≡ int.Refused (record { kind = e .kind; offset = e .offset; input = input.Row }) ⌝ }
@@ -377,7 +389,7 @@ pub fn look_lent(plan: &[usize; 131], row: &[u8], k: usize) -> LookUp
 {
     match check_asked(plan, row, k) {
         Matched::Refused(e) => LookUp::Refused(e),
-        Matched::Same => match open_map(plan, row) {
+        Matched::Same => match open_plain(plan, row) {
             IntRead::Refused(e) => about_row(e),
             IntRead::Int(_) => look_at(plan, row, k),
         },

@@ -32,18 +32,20 @@ returns-2 c =
     let v = sym (c .before .before .before .is-variable-in .ensures) ∙ c .before .before .if1 .taken in
     (passed-absent (args .word) (args .row .now) (place (args .at) (args .prefixes)) (gap-in .ensures .0) v (sym (c .before .is-there .ensures) ∙ c .if2 .left), (omega (arith, gap-in .ensures .1), omega arith))
 
-mul-t11 : tie.Need-mul-t11
-mul-t11 c =
-    let size-in = c .before .size-in in
-    let bit-on = c .bit-on in
-    omega (arith, times-one (size-in .result) (bit-on .result) (bit-on .ensures .1), size-in .ensures .1)
+-- what the size and the bit make is small
+mul-t13 : tie.Need-mul-t13
+mul-t13 c = omega (arith, times-one (c .before .size-in .result) (c .bit-on .result) (c .bit-on .ensures .1), c .before .size-in .ensures .1)
 
-add-t12 : tie.Need-add-t12
-add-t12 c =
+add-t14 : tie.Need-add-t14
+add-t14 c =
+    omega
+    (arith, times-one (c .before .size-in .result) (c .bit-on .result) (c .bit-on .ensures .1), c .before .size-in .ensures .1, c .before .before .before .before .gap-in .ensures .1)
+
+add-t15 : tie.Need-add-t15
+add-t15 c =
     let pre = c .before .before .before .before .before .before .pre in
-    let size-in = c .before .size-in in
-    let bit-on = c .bit-on in
-    omega (arith, times-one (size-in .result) (bit-on .result) (bit-on .ensures .1), size-in .ensures .1, c .before .before .before .before .gap-in .ensures .1, pre .1)
+    omega
+    (arith, times-one (c .before .size-in .result) (c .bit-on .result) (c .bit-on .ensures .1), c .before .size-in .ensures .1, c .before .before .before .before .gap-in .ensures .1, pre .1)
 
 returns-3 : tie.Need-returns-3
 returns-3 c =
@@ -62,14 +64,16 @@ pass-spec =
     tie.close
     (tie.spec
     (λ c κs. search needs)
-    (λ c. search needs)
     (λ c κs. search needs)
     (λ c κs. search needs)
+    (λ c. omega (arith, c .before .before .before .before .gap-in .ensures .1, c .before .before .before .before .before .before .pre .1))
     hop-requires
     returns
+    (λ c. omega (arith, c .before .before .before .before .gap-in .ensures .1, c .before .before .before .before .before .before .pre .1))
     returns-2
     (λ c κs. search needs)
     (λ c κs. search needs)
-    mul-t11
-    add-t12
+    mul-t13
+    add-t14
+    add-t15
     returns-3)
