@@ -1,6 +1,6 @@
 // One stop on the way over row data.
 ghost use mathlib.Core.Path.{_≡_};
-ghost use Prim.Native.Nat.{_+_, _*_, _≤_};
+ghost use Prim.Native.Nat.{_+_, _*_, _<_, _≤_};
 ghost use Rattle.section.specs.Ways.{PassedTo};
 use column::column::allows;
 use column::stop::bit_on;
@@ -19,6 +19,14 @@ fn kept(n: usize, has: usize) -> usize
     if has == 0 { 0 } else { n }
 }
 
+// The same by a product: of two choices the compiler makes a branch.
+fn times(n: usize, has: usize) -> usize
+    requires { ⌜ (n < 32) × (has ≤ 1) ⌝ }
+    ensures { λ r. ⌜ (r ≡ n * has) × (r ≤ n) ⌝ }
+{
+    n * has
+}
+
 // Past the stop of a word, from `at`; 0 where its length is not allowed. No branch depends on whether the field is there.
 pub(crate) fn pass(word: usize, bits: u64, section: &[u8], at: usize) -> usize
     requires { ⌜ at ≤ 1099511627776 ⌝ }
@@ -26,7 +34,7 @@ pub(crate) fn pass(word: usize, bits: u64, section: &[u8], at: usize) -> usize
 {
     let has = bit_on(word, bits);
     let from = at + gap_in(word);
-    let size = kept(size_in(word), has);
+    let size = times(size_in(word), has);
     if is_variable_in(word) {
         let length = kept(length_at(word, section, from), has);
         if allows(most_in(word), is_even_in(word), length) {
