@@ -241,12 +241,14 @@ uint32_t adtg_write_update(const uint8_t *file, size_t file_length, size_t numbe
  * with the bytes of its prefix added. */
 typedef struct adtg_plan {
     /* Number i, for each column i under 64: its type code in the lowest 8 bits, and above it its flags in 8, its maximum in 16
-     * (0 where the type has none), its gap in 16 (the bytes from the end of the last earlier stop, or from the row's start, up
-     * to its prefix or field; 0 for a chapter), its bit in the presence map in 8 (how many nullable columns stand before it)
-     * and its width in 8 (0 where the type has none).
-     * Number 64 + j, for each j under 64: how many stops stand before column j in the lowest 8 bits, the column number of stop
-     * j in 8, and above it the bit of nullable chapter j in the presence map.
-     * Number 128: how many columns there are. 129: the bytes of the presence map. 130: how many nullable chapters there are.
+     * (0 where the type has none), its gap in 12 (the bytes from the end of the last earlier stop, or from the row's start, up
+     * to its prefix or field; 0 for a chapter), its bit in the presence map in 6 (how many nullable columns stand before it),
+     * how many stops stand before it in 6, and its width in 8 (0 where the type has none).
+     * Number 64 + j, for stop j: its gap in the lowest 16 bits, and above it 63 less its bit in the presence map in 6 (0 where
+     * it is not nullable), a bit each for a type of variable length, a prefix of four bytes, lengths that must be even, and
+     * nullable, a bit that is 0, the bytes of its prefix or else its width in 5, and the greatest length in bytes in 32.
+     * Number 128: how many columns there are in the lowest 8 bits, and above it the column number of the first stop.
+     * 129: the bytes of the presence map. 130: the bits of the nullable chapters, the map's first bit on top.
      * All that has no column, stop or chapter is 0. */
     uint64_t numbers[131];
 } adtg_plan;

@@ -4,8 +4,8 @@
 use adtg::raw::{self, Malformed};
 
 use crate::reading::header::Header;
+use crate::reading::numbers::PlanNumbers;
 use crate::reading::options::Options;
-use crate::reading::plan::PlanNumbers;
 use crate::reading::row::Answer;
 use crate::reading::schema::{Counts, Description};
 use crate::reading::update::{Change, Current};

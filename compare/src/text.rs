@@ -5,10 +5,11 @@ use std::ops::Range;
 
 use crate::archive::{Fault, Reply};
 use crate::reading::header::Header;
+use crate::reading::numbers::{Part, PlanNumbers, COUNTS};
 use crate::reading::options::Options;
-use crate::reading::plan::{Plan, PlanNumbers};
+use crate::reading::plan::Plan;
 use crate::reading::row;
-use crate::reading::schema::{Counts, Description, MAX_COLUMNS};
+use crate::reading::schema::{Counts, Description};
 use crate::reading::update::{Change, Current};
 use crate::reading::Error;
 
@@ -80,13 +81,11 @@ impl Text for Plan {
 /// The part of a plan's numbers that vector files show.
 impl Text for PlanNumbers {
     fn text(&self) -> String {
-        let parts = self.parts();
-        let mut text = format!("plan {}", parts.count);
-        for at in 0..parts.count.min(MAX_COLUMNS) {
-            text += &format!(
-                " {}:{}:{}:{}",
-                parts.codes[at], parts.flags[at], parts.maxima[at], parts.gaps[at]
-            );
+        let mut text = format!("plan {}", self.get(COUNTS, Part::COUNT));
+        for at in 0..self.count() {
+            let shown = [Part::CODE, Part::FLAGS, Part::MAXIMUM, Part::GAP];
+            let [code, flags, maximum, gap] = shown.map(|part| self.get(at, part));
+            text += &format!(" {code}:{flags}:{maximum}:{gap}");
         }
         text
     }

@@ -89,6 +89,15 @@ impl Column {
         self.kind == Kind::Chapter
     }
 
+    /// True if places behind it depend on the row.
+    pub fn is_stop(&self) -> bool {
+        match self.kind {
+            Kind::Fixed(_) => self.nullable,
+            Kind::Variable => true,
+            Kind::Chapter => false,
+        }
+    }
+
     /// The bytes that say a field's length; 0 unless the column is variable.
     #[inline]
     pub fn prefix_size(&self) -> usize {
@@ -102,11 +111,18 @@ impl Column {
     /// True if a variable column takes fields of this many bytes.
     #[inline]
     pub fn allows_length(&self, length: usize) -> bool {
+        let is_even = length.is_multiple_of(2);
+        length <= self.greatest_length() && (is_even || self.code != WIDE_TEXT)
+    }
+
+    /// The greatest length in bytes that a variable column takes.
+    #[inline]
+    pub fn greatest_length(&self) -> usize {
         let maximum = usize::from(self.maximum);
         if self.code == WIDE_TEXT {
-            length <= 2 * maximum && length.is_multiple_of(2)
+            2 * maximum
         } else {
-            length <= maximum
+            maximum
         }
     }
 

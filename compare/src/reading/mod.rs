@@ -1,11 +1,12 @@
-//! The rules, read from the papers alone: one module for each piece of the format.
-//! Nothing here knows the proved code.
+//! The rules, read from the papers alone: one module for each piece of the format. Only `numbers`
+//! goes by the definitions of the proofs. Nothing here knows the proved code.
 
 pub mod batch;
 pub mod column;
 pub mod encode;
 pub mod error;
 pub mod header;
+pub mod numbers;
 pub mod options;
 pub mod plan;
 pub mod row;

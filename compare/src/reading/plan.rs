@@ -1,7 +1,8 @@
 //! Column plans: what a schema's columns are and how far apart their fields lie. A look-up
 //! through a plan jumps from stop to stop: the columns after which places depend on the row.
 
-use super::column::{Column, Kind};
+use super::column::{Column, Kind, WIDE_TEXT};
+use super::numbers::{Part, PlanNumbers, CHAPTERS, COUNTS, MAP, STOPS};
 use super::row::{Answer, PresenceMap, Walk};
 use super::schema::{SchemaFile, MAX_COLUMNS};
 use super::{check_size, Error, ErrorCode, Input};
@@ -14,6 +15,7 @@ pub struct Plan {
     presence: PresenceMap,
     /// The indexes of all stops, in order; 0 past the last.
     stops: [u8; MAX_COLUMNS],
+    stop_count: usize,
 }
 
 /// One column of a plan.
@@ -27,91 +29,6 @@ pub struct PlanColumn {
     stops_before: u8,
     /// How many nullable columns come before it.
     bit: u8,
-}
-
-/// How many numbers the plans of the C interface have.
-pub const PLAN_NUMBERS: usize = 2 * MAX_COLUMNS + 3;
-
-/// All that a plan holds, as the numbers of the C interface: one for each column, one for each
-/// number of the lists, then three.
-#[derive(Clone, Copy, Debug, PartialEq, Eq)]
-pub struct PlanNumbers {
-    pub numbers: [u64; PLAN_NUMBERS],
-}
-
-/// The parts that share these numbers. Each list has a number for each column, or one for each
-/// stop or nullable chapter; the rest are 0.
-#[derive(Clone, Copy, Debug, PartialEq, Eq)]
-pub struct PlanParts {
-    pub count: usize,
-    /// The bytes of the presence map.
-    pub map: usize,
-    /// How many nullable chapters there are.
-    pub chapters: usize,
-    pub codes: [u8; MAX_COLUMNS],
-    pub flags: [u8; MAX_COLUMNS],
-    pub maxima: [u16; MAX_COLUMNS],
-    pub gaps: [u16; MAX_COLUMNS],
-    /// How many nullable columns come before each column.
-    pub bits: [u8; MAX_COLUMNS],
-    /// The widths of fixed columns.
-    pub widths: [u8; MAX_COLUMNS],
-    /// How many stops come before each column.
-    pub before: [u8; MAX_COLUMNS],
-    /// The indexes of the stops.
-    pub stops: [u8; MAX_COLUMNS],
-    /// The bits of the nullable chapters, each under 2^48.
-    pub marked: [u64; MAX_COLUMNS],
-}
-
-impl PlanNumbers {
-    /// The plan of nothing.
-    pub const BLANK: PlanNumbers = PlanNumbers {
-        numbers: [0; PLAN_NUMBERS],
-    };
-
-    /// The parts of its numbers.
-    pub fn parts(&self) -> PlanParts {
-        let (columns, rest) = self.numbers.split_at(MAX_COLUMNS);
-        let (lists, rest) = rest.split_at(MAX_COLUMNS);
-        let column = |at: usize, shift: u32| columns[at] >> shift;
-        let list = |at: usize, shift: u32| lists[at] >> shift;
-        let each: [usize; MAX_COLUMNS] = std::array::from_fn(|at| at);
-        PlanParts {
-            count: rest[0] as usize,
-            map: rest[1] as usize,
-            chapters: rest[2] as usize,
-            codes: each.map(|at| column(at, 0) as u8),
-            flags: each.map(|at| column(at, 8) as u8),
-            maxima: each.map(|at| column(at, 16) as u16),
-            gaps: each.map(|at| column(at, 32) as u16),
-            bits: each.map(|at| column(at, 48) as u8),
-            widths: each.map(|at| column(at, 56) as u8),
-            before: each.map(|at| list(at, 0) as u8),
-            stops: each.map(|at| list(at, 8) as u8),
-            marked: each.map(|at| list(at, 16)),
-        }
-    }
-}
-
-impl PlanParts {
-    /// The numbers that hold them.
-    pub fn numbers(&self) -> PlanNumbers {
-        let mut numbers = [0; PLAN_NUMBERS];
-        for at in 0..MAX_COLUMNS {
-            numbers[at] = u64::from(self.codes[at])
-                | u64::from(self.flags[at]) << 8
-                | u64::from(self.maxima[at]) << 16
-                | u64::from(self.gaps[at]) << 32
-                | u64::from(self.bits[at]) << 48
-                | u64::from(self.widths[at]) << 56;
-            numbers[MAX_COLUMNS + at] =
-                u64::from(self.before[at]) | u64::from(self.stops[at]) << 8 | self.marked[at] << 16;
-        }
-        let counts = [self.count, self.map, self.chapters].map(|count| count as u64);
-        numbers[2 * MAX_COLUMNS..].copy_from_slice(&counts);
-        PlanNumbers { numbers }
-    }
 }
 
 /// A row whose presence map is checked, for look-ups through the plan it was opened with.
@@ -150,9 +67,9 @@ impl Plan {
             count: columns.len(),
             presence: PresenceMap::of(columns),
             stops: [0; MAX_COLUMNS],
+            stop_count: 0,
         };
         let mut since_stop = plan.presence.size();
-        let mut stop_count = 0;
         let mut bit = 0;
         for (index, column) in columns.iter().enumerate() {
             // A gap is at most 64 fields of 16 bytes and a map of eight; counts are under 65.
@@ -163,18 +80,16 @@ impl Plan {
                 } else {
                     since_stop as u16
                 },
-                stops_before: stop_count as u8,
+                stops_before: plan.stop_count as u8,
                 bit,
             };
             bit += u8::from(column.nullable);
-            match column.kind {
-                Kind::Chapter => {}
-                Kind::Fixed(width) if !column.nullable => since_stop += usize::from(width),
-                Kind::Fixed(_) | Kind::Variable => {
-                    plan.stops[stop_count] = index as u8;
-                    stop_count += 1;
-                    since_stop = 0;
-                }
+            if column.is_stop() {
+                plan.stops[plan.stop_count] = index as u8;
+                plan.stop_count += 1;
+                since_stop = 0;
+            } else if let Kind::Fixed(width) = column.kind {
+                since_stop += usize::from(width);
             }
         }
         plan
@@ -190,36 +105,20 @@ impl Plan {
         self.presence.size()
     }
 
-    /// All that the plan holds, as numbers.
+    /// All that the plan holds, as the numbers of the C interface.
     pub fn numbers(&self) -> PlanNumbers {
-        self.parts().numbers()
-    }
-
-    /// All that the plan holds, part by part.
-    fn parts(&self) -> PlanParts {
-        let mut marked = [0; MAX_COLUMNS];
-        let mut chapters = 0;
-        for bit in self.presence.chapter_bits() {
-            marked[chapters] = bit as u64;
-            chapters += 1;
+        let mut plan = PlanNumbers::BLANK;
+        for (index, planned) in self.columns().iter().enumerate() {
+            planned.fill(index, &mut plan);
         }
-        PlanParts {
-            count: self.count,
-            map: self.map_size(),
-            chapters,
-            codes: self.columns.map(|planned| planned.column.code),
-            flags: self.columns.map(|planned| planned.column.nullable.into()),
-            maxima: self.columns.map(|planned| planned.column.maximum),
-            gaps: self.columns.map(|planned| planned.gap),
-            bits: self.columns.map(|planned| planned.bit),
-            widths: self.columns.map(|planned| match planned.column.kind {
-                Kind::Fixed(width) => width,
-                Kind::Variable | Kind::Chapter => 0,
-            }),
-            before: self.columns.map(|planned| planned.stops_before),
-            stops: self.stops,
-            marked,
+        for (stop, index) in self.stops[..self.stop_count].iter().enumerate() {
+            self.columns[usize::from(*index)].fill_stop(STOPS + stop, &mut plan);
         }
+        plan.set(COUNTS, Part::COUNT, self.count as u64);
+        plan.set(COUNTS, Part::FIRST, self.stops[0].into());
+        plan.set(MAP, Part::WHOLE, self.map_size() as u64);
+        plan.set(CHAPTERS, Part::WHOLE, self.presence.chapters());
+        plan
     }
 
     /// Where the field of a column starts in every row that has it; `None` if that depends on
@@ -257,6 +156,42 @@ impl Plan {
         self.columns()
             .get(column)
             .ok_or(Error::new(ErrorCode::NoSuch, 0, Input::Column))
+    }
+}
+
+impl PlanColumn {
+    /// Fills in the number of a column.
+    fn fill(&self, number: usize, plan: &mut PlanNumbers) {
+        let mut set = |part, value: u64| plan.set(number, part, value);
+        set(Part::CODE, self.column.code.into());
+        set(Part::FLAGS, self.column.nullable.into());
+        set(Part::MAXIMUM, self.column.maximum.into());
+        set(Part::GAP, self.gap.into());
+        set(Part::BIT, self.bit.into());
+        set(Part::BEFORE, self.stops_before.into());
+        if let Kind::Fixed(width) = self.column.kind {
+            set(Part::WIDTH, width.into());
+        }
+    }
+
+    /// Fills in the number of a stop.
+    fn fill_stop(&self, number: usize, plan: &mut PlanNumbers) {
+        let mut set = |part, value: u64| plan.set(number, part, value);
+        let prefix = self.column.prefix_size();
+        set(Part::STOP_GAP, self.gap.into());
+        if self.column.nullable {
+            set(Part::NULLABLE, 1);
+            set(Part::STOP_BIT, 63 - u64::from(self.bit));
+        }
+        if let Kind::Fixed(width) = self.column.kind {
+            set(Part::SIZE, width.into());
+        } else {
+            set(Part::VARIABLE, 1);
+            set(Part::LONG, (prefix == 4).into());
+            set(Part::EVEN, (self.column.code == WIDE_TEXT).into());
+            set(Part::SIZE, prefix as u64);
+            set(Part::MOST, self.column.greatest_length() as u64);
+        }
     }
 }
 
@@ -321,52 +256,35 @@ mod tests {
 
     #[test]
     fn numbers_hold_all_of_a_plan() {
-        let start = |numbers: &[u8]| {
-            let mut array = [0; MAX_COLUMNS];
-            array[..numbers.len()].copy_from_slice(numbers);
-            array
-        };
-        let wide = |numbers: &[u8]| start(numbers).map(u16::from);
-        let parts = PlanParts {
-            count: 3,
-            map: 1,
-            chapters: 0,
-            codes: start(&[0x03, 0x82, 0x11]),
-            flags: start(&[0, 1, 1]),
-            maxima: wide(&[0, 10, 0]),
-            gaps: wide(&[1, 5, 0]),
-            bits: start(&[0, 0, 1]),
-            widths: start(&[4, 0, 1]),
-            before: start(&[0, 0, 1]),
-            stops: start(&[1, 2]),
-            marked: [0; MAX_COLUMNS],
-        };
-        assert_eq!(plan_of(&S).parts(), parts);
         let numbers = plan_of(&S).numbers().numbers;
-        assert_eq!(numbers[1], 0x0000_0005_000A_0182);
-        assert_eq!(numbers[2], 0x0101_0000_0000_0111);
-        assert_eq!(numbers[64..67], [0x0100, 0x0200, 0x0001]);
-        assert_eq!(numbers[128..], [3, 1, 0]);
+        let columns = [
+            0x0400_0001_0000_0003,
+            0x0000_0005_000A_0182,
+            0x0104_1000_0000_0111,
+        ];
+        assert_eq!(numbers[..4], [&columns[..], &[0]].concat());
+        // Wide text with a prefix of one byte, 20 bytes at most, and one byte.
+        let stops = [0x0000_0014_0B7F_0005, 0x0000_0000_0A3E_0000];
+        assert_eq!(numbers[64..67], [&stops[..], &[0]].concat());
+        assert_eq!(numbers[128..], [0x0103, 1, 0]);
         // A nullable byte, a chapter, a nullable chapter, a four-byte integer.
         let schema = [
             4, 0x11, 1, 0x88, 1, 0, 7, 1, 0x11, 0, 0x88, 1, 1, 8, 1, 0x11, 0, 3, 0,
         ];
-        let parts = PlanParts {
-            count: 4,
-            map: 1,
-            chapters: 1,
-            codes: start(&[0x11, 0x88, 0x88, 0x03]),
-            flags: start(&[1, 0, 1, 0]),
-            maxima: wide(&[]),
-            gaps: wide(&[1, 0, 0, 0]),
-            bits: start(&[0, 1, 1, 2]),
-            widths: start(&[1, 0, 0, 4]),
-            before: start(&[0, 1, 1, 1]),
-            stops: start(&[0]),
-            marked: start(&[1]).map(u64::from),
-        };
-        assert_eq!(plan_of(&schema).parts(), parts);
-        assert_eq!(plan_of(&schema).numbers().parts(), parts);
+        let numbers = plan_of(&schema).numbers().numbers;
+        let columns = [
+            0x0100_0001_0000_0111,
+            0x0004_1000_0000_0088,
+            0x0004_1000_0000_0188,
+            0x0404_2000_0000_0003,
+        ];
+        assert_eq!(numbers[..5], [&columns[..], &[0]].concat());
+        assert_eq!(numbers[64..66], [0x0000_0000_0A3F_0001, 0]);
+        assert_eq!(numbers[128..], [4, 1, 1 << 62]);
+        // Long text that every row has, behind an integer.
+        let numbers = plan_of(&[2, 3, 0, 0x81, 1, 0, 0x80, 2]).numbers().numbers;
+        assert_eq!(numbers[64], 0x0000_0100_20C0_0004);
+        assert_eq!(numbers[128..], [0x0102, 0, 0]);
     }
 
     #[test]

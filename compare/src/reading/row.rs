@@ -114,9 +114,9 @@ impl PresenceMap {
         PresenceMap { bits, chapters }
     }
 
-    /// The bits of nullable chapters, in order.
-    pub(super) fn chapter_bits(&self) -> impl Iterator<Item = usize> + '_ {
-        (0..self.bits).filter(|bit| self.chapters & top_bit(*bit) != 0)
+    /// The bits of nullable chapters, the map's first bit on top.
+    pub(super) fn chapters(&self) -> u64 {
+        self.chapters
     }
 
     /// The map's size in bytes.

@@ -1,25 +1,24 @@
 //! Trials of batches: one column of the rows of one owner. Through a plan that was made they are
-//! held against the reading's walk. What a look-up through a forged plan answers is free; there a
-//! batch must answer what the archive's own look-ups answer, row by row.
+//! held against the reading's walk, through a forged one against its look-ups, row by row.
 
 use super::forged::forged;
 use super::plans::make;
 use super::schema::SOUND;
 use super::sections::HELD;
 use super::{all_and_past, capacity, complaints, damage, filled_complaints, Call, Run};
-use crate::archive::{self, Fault};
+use crate::archive;
 use crate::generate::{self, Section};
 use crate::random::Random;
 use crate::reading::batch::{
     find_by, find_column, owner_of, CHAPTER_MARK, NULL_MARK, PARENTS, SPAN_NUMBERS,
 };
 use crate::reading::column::Column;
-use crate::reading::plan::{Plan, PlanNumbers};
-use crate::reading::row::Answer;
+use crate::reading::numbers::{Part, PlanNumbers};
+use crate::reading::plan::Plan;
 use crate::reading::schema::SchemaFile;
 use crate::reading::section::ROW_NUMBERS;
 use crate::reading::{Error, ErrorCode, Input, MAX_INPUT};
-use crate::text::{shown, shown_numbers, Text};
+use crate::text::{shown, shown_numbers};
 
 static FIND: Call = Call {
     name: "find_column",
@@ -104,7 +103,7 @@ pub(super) fn forged_case(random: &mut Random, run: &mut Run) {
     let Some((_, made)) = make(&file, index, run) else {
         return;
     };
-    let plan = forged(random, made.parts()).numbers();
+    let plan = forged(random, made);
     for column in all_and_past(random, schemas.columns_at(index).len()) {
         let before = asked.spans(random);
         find_forged(&plan, asked, column, &before, run);
@@ -117,9 +116,9 @@ pub(super) fn oversized(zeros: &[u8], run: &mut Run) {
     let Some(planned) = Planned::make(&SOUND, 0, run) else {
         return;
     };
-    let mut far = planned.numbers.parts();
-    far.gaps[0] = u16::MAX;
-    let plans = [planned.numbers, far.numbers(), PlanNumbers::BLANK];
+    let mut far = planned.numbers;
+    far.set(0, Part::GAP, u64::MAX);
+    let plans = [planned.numbers, far, PlanNumbers::BLANK];
     let end = MAX_INPUT as u32;
     let tables = [
         vec![],
@@ -180,21 +179,12 @@ fn find_forged(plan: &PlanNumbers, asked: Asked, column: usize, before: &[u32], 
         rows,
         owner,
     } = asked;
-    let mut malformed = None;
-    let look_up = |part: &[u8]| match archive::planned_look_up(plan, part, column) {
-        Ok(answer) => Ok(answer),
-        Err(Fault::Error(error)) => Err(error),
-        Err(fault) => {
-            malformed = Some(fault.text());
-            Ok(Answer::Null)
-        }
-    };
+    let look_up = |part: &[u8]| plan.look_up(part, column);
     let mut ours = before.to_vec();
     let one_by_one = find_by(look_up, section, rows, owner, &mut ours);
     let mut theirs = before.to_vec();
     let archive = archive::find_column(plan, section, rows, owner, column, &mut theirs);
     let mut complaints = complaints(&one_by_one, &archive);
-    complaints.extend(malformed);
     complaints.extend(span_complaints(before, &ours, &theirs, &one_by_one));
     let found = archive.map_or(0, |count| count.saturating_mul(SPAN_NUMBERS));
     let spans = &theirs[..found.min(theirs.len())];
