@@ -1,24 +1,13 @@
--- Laws of an answer as sixteen numbers.
+-- Answers of calls by those of the calls below.
 -- Assumes nothing.
 use Prim.Native.Nat.{ℕ}
 use mathlib.Core.List.{List}
-use mathlib.Core.Path.{_≡_, refl, sym, ap, _∙_}
-use Rattle.wire.specs.declared.error.Error.{Error}
+use mathlib.Core.Path.{_≡_, ap, _∙_}
 use Rattle.wire.specs.declared.output.Written.{Written}
-use Rattle.wire.specs.Read.{Bytes, Read, ok, refused}
+use Rattle.wire.specs.Read.{Bytes, Read}
 use Rattle.wire.specs.Output.{sizeOf, toldWritten, Wrote}
 use Rattle.encode.specs.Writers.{WroteAt}
-use Rattle.adtg_c.specs.Answers.{Answered, statusOf, padded, numbersOf, noValues, sizeValues}
-
--- an error says the same whatever the values would have been
-pub answered-error :
-    {A : Type 0} (values : A → List ℕ) (x : Read A) (e : Error) {status : ℕ} {numbers : List ℕ} → x ≡ refused e →
-    Answered noValues (refused e) status numbers → Answered values x status numbers
-answered-error values x e h a = record { answers = a .answers ∙ ap statusOf (sym h); holds = a .holds ∙ ap (numbersOf values) (sym h) }
-
-pub answered-value :
-    {A : Type 0} (values : A → List ℕ) (x : Read A) (v : A) {numbers : List ℕ} → x ≡ ok v → numbers ≡ padded (values v) → Answered values x 0 numbers
-answered-value values x v h e = record { answers = ap statusOf (sym h); holds = e ∙ ap (numbersOf values) (sym h) }
+use Rattle.answers.specs.Answers.{Answered, statusOf, numbersOf, sizeValues}
 
 -- a writer's answer is that of its piece
 pub answered-writer :

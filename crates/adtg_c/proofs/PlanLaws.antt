@@ -4,13 +4,11 @@ use Prim.Native.Nat.{ℕ}
 use mathlib.Core.Path.{_≡_, sym, ap, _∙_}
 use Rattle.wire.specs.declared.error.Error.{Error}
 use Rattle.wire.specs.Errors.{codeOf, inputNumber}
-use Rattle.wire.specs.Read.{Bytes, Read, ok, refused}
+use Rattle.wire.specs.Read.{Bytes, refused}
 use Rattle.questions.specs.declared.file.Found.{Found}
 use Rattle.questions.specs.declared.file.Found.the-variants as found
-use Rattle.plan.specs.declared.plan.Plan.{Plan}
 use Rattle.adtg.specs.declared.plans.PlanRead.{PlanRead}
 use Rattle.adtg.specs.Plans.{planIn, toldPlan, planBeside, Planned}
-use Rattle.adtg_c.specs.declared.plans.PlanAnswer.{PlanAnswer}
 use Rattle.adtg_c.specs.PlanAnswers.{planAnswer}
 
 module _ {file : Bytes} {number : ℕ} {r : PlanRead} (made : Planned file number r) where

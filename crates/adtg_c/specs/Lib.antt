@@ -1,3 +1,2 @@
-pub mod Answers
-pub mod RowAnswers
+pub mod FileAnswers
 pub mod PlanAnswers

@@ -1,11 +1,11 @@
 // Batches: one column of every row of one table, by a plan whose numbers are lent.
 ghost use mathlib.Core.Path.{_≡_};
 ghost use lib.ListN.{length};
-ghost use Rattle.plan.specs.Lent.{lent};
+ghost use Rattle.plan.specs.Plans.{lent};
 ghost use Rattle.batch.specs.Spans.{spansFound, spansAfter, spanCount, toldSpans};
-ghost use Rattle.adtg_c.specs.Answers.{Answered, sizeValues};
-use crate::answer::refuse;
-use crate::answer::tell;
+ghost use Rattle.answers.specs.Answers.{Answered, sizeValues};
+use answers::answer::refuse;
+use answers::answer::tell;
 use batch::find::SpansRead;
 use batch::find::find_lent;
 

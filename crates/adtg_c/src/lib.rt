@@ -2,7 +2,6 @@
 // the error's code; the numbers hold the values, or the error's offset and input, and then zeros.
 // The header file include/adtg.h declares them.
 
-pub mod answer;
 pub mod batches;
 pub mod head;
 pub mod plans;

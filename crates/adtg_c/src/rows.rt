@@ -1,19 +1,13 @@
 // Rows, with the schema file that says their columns: look-ups, ends, the number of fields, the current value, the writers.
 ghost use mathlib.Core.Path.{_≡_};
 ghost use lib.ListN.{length};
-ghost use Rattle.wire.specs.Integers.{toldInt};
 ghost use Rattle.wire.specs.Output.{sizeOf};
-ghost use Rattle.row.specs.Told.{toldLookUp};
-ghost use Rattle.update.specs.Told.{toldUpdate, toldCurrent};
 ghost use Rattle.encode.specs.Writers.{outputWith};
 ghost use Rattle.adtg.specs.Rows.{lookUpIn, fieldCountIn, rowEndIn};
 ghost use Rattle.adtg.specs.Updates.{lookUpdateIn, updateEndIn, currentIn};
 ghost use Rattle.adtg.specs.Writers.{writeOriginalIn, writeUpdateIn};
-ghost use Rattle.adtg_c.specs.Answers.{Answered, sizeValues};
-ghost use Rattle.adtg_c.specs.RowAnswers.{lookUpValues, updateValues, currentValues};
-use crate::answer::answer_written;
-use crate::answer::refuse;
-use crate::answer::tell;
+ghost use Rattle.answers.specs.Answers.{Answered, sizeValues};
+ghost use Rattle.answers.specs.RowAnswers.{lookUpValues, updateValues, currentValues};
 use adtg::rows::field_count;
 use adtg::rows::look_up;
 use adtg::rows::row_end;
@@ -22,98 +16,11 @@ use adtg::updates::look_update;
 use adtg::updates::update_end;
 use adtg::writers::write_original;
 use adtg::writers::write_update;
-use row::rows::LookUp;
-use update::current::CurrentValue;
-use update::updates::UpdateLookUp;
-use wire::integer::IntRead;
-
-// The answer of a call that gives one number.
-pub(crate) fn answer_int(read: IntRead, out: &mut [u64; 16]) -> u32
-    ensures { λ r. ⌜ Answered sizeValues (toldInt read) r (now (out .exit)) ⌝ }
-{
-    match read {
-        IntRead::Refused(e) => refuse(e, out),
-        IntRead::Int(n) => {
-            *out = tell(n, 0, 0, 0, 0);
-            0
-        }
-    }
-}
-
-// The answer of a look-up in a row.
-fn answer_look_up(found: LookUp, out: &mut [u64; 16]) -> u32
-    ensures { λ r. ⌜ Answered lookUpValues (toldLookUp found) r (now (out .exit)) ⌝ }
-{
-    match found {
-        LookUp::Refused(e) => refuse(e, out),
-        LookUp::Found(f) => {
-            *out = tell(1, f.start, f.end, f.prefixes, 0);
-            0
-        }
-        LookUp::Null => {
-            *out = tell(2, 0, 0, 0, 0);
-            0
-        }
-        LookUp::Chapter => {
-            *out = tell(3, 0, 0, 0, 0);
-            0
-        }
-    }
-}
-
-// The answer of a look-up in update data.
-fn answer_update(found: UpdateLookUp, out: &mut [u64; 16]) -> u32
-    ensures { λ r. ⌜ Answered updateValues (toldUpdate found) r (now (out .exit)) ⌝ }
-{
-    match found {
-        UpdateLookUp::Refused(e) => refuse(e, out),
-        UpdateLookUp::Found(f) => {
-            *out = tell(1, f.start, f.end, f.prefixes, 0);
-            0
-        }
-        UpdateLookUp::Null => {
-            *out = tell(2, 0, 0, 0, 0);
-            0
-        }
-        UpdateLookUp::Chapter => {
-            *out = tell(3, 0, 0, 0, 0);
-            0
-        }
-        UpdateLookUp::Unchanged => {
-            *out = tell(4, 0, 0, 0, 0);
-            0
-        }
-    }
-}
-
-// The answer of a current value.
-fn answer_current(found: CurrentValue, out: &mut [u64; 16]) -> u32
-    ensures { λ r. ⌜ Answered currentValues (toldCurrent found) r (now (out .exit)) ⌝ }
-{
-    match found {
-        CurrentValue::Refused(e) => refuse(e, out),
-        CurrentValue::Updated(f) => {
-            *out = tell(1, 2, f.start, f.end, f.prefixes);
-            0
-        }
-        CurrentValue::Forced => {
-            *out = tell(2, 2, 0, 0, 0);
-            0
-        }
-        CurrentValue::Found(f) => {
-            *out = tell(1, 1, f.start, f.end, f.prefixes);
-            0
-        }
-        CurrentValue::Null => {
-            *out = tell(2, 1, 0, 0, 0);
-            0
-        }
-        CurrentValue::Chapter => {
-            *out = tell(3, 1, 0, 0, 0);
-            0
-        }
-    }
-}
+use answers::answer::answer_int;
+use answers::answer::answer_written;
+use answers::rows::answer_current;
+use answers::rows::answer_look_up;
+use answers::rows::answer_update;
 
 // What a row has at a column.
 #[no_mangle]

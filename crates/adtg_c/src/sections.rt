@@ -2,9 +2,9 @@
 ghost use mathlib.Core.Path.{_≡_};
 ghost use lib.ListN.{length};
 ghost use Rattle.section.specs.Table.{rowsRead, tableAfter, rowCount, toldRows};
-ghost use Rattle.adtg_c.specs.Answers.{Answered, sizeValues};
-use crate::answer::refuse;
-use crate::answer::tell;
+ghost use Rattle.answers.specs.Answers.{Answered, sizeValues};
+use answers::answer::refuse;
+use answers::answer::tell;
 use section::read::RowsRead;
 use section::read::read_section;
 

@@ -16,8 +16,8 @@ use Rattle.column.specs.declared.field.Field.{Field}
 use Rattle.walk.specs.Rows.{Answer, field, null, chapter}
 use Rattle.walk.proofs.Arrays.{rest}
 use Rattle.plan.specs.declared.plan.Plan.{Plan}
-use Rattle.plan.specs.Plans.{plannedRow}
-use Rattle.plan.proofs.Inside.{row-inside}
+use Rattle.jump.specs.Jumps.{plannedRow}
+use Rattle.jump.proofs.Inside.{row-inside}
 use Rattle.batch.specs.Spans.{rowAt, parents, ownerOf, startIn, Span, span, nullMark, chapterMark, spanOf, isRow, moved, spanIn, planned}
 use Rattle.batch.proofs.Places.{row-errors, error-inside}
 

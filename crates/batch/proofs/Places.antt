@@ -13,7 +13,7 @@ use Rattle.wire.specs.declared.error.Input.the-variants as input
 use Rattle.wire.specs.Read.{Bytes, Read, ok, bad, _>>=_, pick, check, about, limit, sizedBy, sized}
 use Rattle.wire.specs.Bits.{bitSet}
 use Rattle.wire.proofs.Laws.{bit-past}
-use Rattle.wire.specs.Maps.{topBit}
+use Rattle.maps.specs.Maps.{topBit}
 use Rattle.column.specs.Columns.{isVariable, isChapter}
 use Rattle.column.specs.Fields.{bytesAt, variableAt}
 use Rattle.column.specs.Packed.{unpackedColumn}
@@ -28,7 +28,8 @@ use Rattle.grammar.proofs.RowErrors.{OfError, an-error, of-bind, of-check, of-o
 use Rattle.grammar.proofs.RowErrors as row
 use Rattle.plan.specs.declared.plan.Plan.{Plan}
 use Rattle.plan.specs.Packed.{widthIn}
-use Rattle.plan.specs.Plans.{plannedWord, plannedColumn, plannedMark, plannedCount, plannedMap, plannedChapters, stopsTo, byBit, fieldIn, jumped, landed, unsetFrom, plannedKnown, plannedOpen, plannedAnswer, plannedLookUp, plannedRow}
+use Rattle.plan.specs.Plans.{plannedWord, plannedColumn, plannedMark, plannedCount, plannedMap, plannedChapters, plannedKnown}
+use Rattle.jump.specs.Jumps.{stopsTo, byBit, fieldIn, jumped, landed, unsetFrom, plannedOpen, plannedAnswer, plannedLookUp, plannedRow}
 
 -- Which error can stand where.
 

@@ -13,7 +13,7 @@ use Rattle.wire.specs.Read.{Bytes, Read, ok, bad, _>>=_, pick, check, about, si
 use Rattle.wire.specs.Output.{put}
 use Rattle.walk.specs.Rows.{Answer, field, null, chapter}
 use Rattle.plan.specs.declared.plan.Plan.{Plan}
-use Rattle.plan.specs.Plans.{plannedRow}
+use Rattle.jump.specs.Jumps.{plannedRow}
 use Rattle.grammar.specs.Grammar.{Row, entry}
 use Rattle.batch.specs.declared.find.SpansRead.{SpansRead}
 use Rattle.batch.specs.declared.find.SpansRead.the-variants as read

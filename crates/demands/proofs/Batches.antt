@@ -34,8 +34,9 @@ use Rattle.walk.specs.Presence.{nullables, presenceBytes, marks, bitOf, present
 use Rattle.walk.specs.Rows.{Answer, field, null, chapter, step, walk, arrive, opened, fieldOf, columnOf, known, lookUp}
 use Rattle.walk.specs.Rows as row
 use Rattle.plan.specs.declared.plan.Plan.{Plan}
-use Rattle.plan.specs.Plans.{plannedColumn, plannedGap, noStops, plannedRow}
-use Rattle.plan.proofs.Inside.{row-inside, row-placed}
+use Rattle.plan.specs.Plans.{plannedColumn, plannedGap, noStops}
+use Rattle.jump.specs.Jumps.{plannedRow}
+use Rattle.jump.proofs.Inside.{row-inside, row-placed}
 use Rattle.grammar.specs.Grammar.{Row, columnsAt}
 use Rattle.grammar.proofs.Demand as grammar
 use Rattle.grammar.proofs.Usable.{RowAt, Usable, parent-row, unchanged-row, changed-row, deleted-row, Each, each-end, each-next, rows-usable}

@@ -21,8 +21,9 @@ use Rattle.walk.specs.Rows.{lookUp, fieldCount, rowEnd}
 use Rattle.walk.specs.Updates.{lookUpdate, updateEnd, current}
 use Rattle.encode.specs.Writers.{writeOriginal, writeUpdate}
 use Rattle.plan.specs.declared.plan.Plan.{Plan}
-use Rattle.plan.specs.Plans.{planOf, plannedCount, plannedRow, fixedPlace}
-use Rattle.plan.specs.Handles.{openedRow}
+use Rattle.plan.specs.Plans.{planOf, plannedCount, fixedPlace}
+use Rattle.jump.specs.Jumps.{plannedRow}
+use Rattle.jump.specs.Handles.{openedRow}
 use Rattle.batch.specs.Spans.{startIn, rowsOf, planned, spansIn, spansFound}
 use Rattle.adtg.specs.InSchema.{both, inSchema}
 use Rattle.adtg.specs.Rows.{lookUpIn, fieldCountIn, rowEndIn}

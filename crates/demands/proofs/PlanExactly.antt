@@ -13,7 +13,7 @@ use Rattle.wire.specs.declared.error.Input.{Input}
 use Rattle.wire.specs.declared.error.Input.the-variants as input
 use Rattle.wire.specs.Read.{Bytes, Read, ok, bad, _>>=_, pick, check, about, sized, whole, limit}
 use Rattle.wire.specs.Bits.{bitSet}
-use Rattle.wire.specs.Maps.{topBit}
+use Rattle.maps.specs.Maps.{topBit}
 use Rattle.wire.proofs.Pieces.{bad-ok}
 use Rattle.column.specs.declared.column.Column.{Column}
 use Rattle.column.specs.declared.field.Field.{Field}
@@ -28,8 +28,9 @@ use Rattle.walk.specs.Leaps.{passed, leaps}
 use Rattle.walk.proofs.Leap.{error-long, error-plain, passed-none, passed-over, passed-bad}
 use Rattle.plan.specs.declared.plan.Plan.{Plan}
 use Rattle.plan.specs.Packed.{widthIn}
-use Rattle.plan.specs.Plans.{plannedWord, plannedColumn, plannedMark, plannedGap, plannedCount, plannedMap, plannedChapters, fieldIn, jumped, landed, unsetFrom, plannedKnown, plannedOpen, plannedAnswer, plannedLookUp, plannedRow, fixedPlace}
-use Rattle.plan.specs.Handles.{openedRow}
+use Rattle.plan.specs.Plans.{plannedWord, plannedColumn, plannedMark, plannedGap, plannedCount, plannedMap, plannedChapters, plannedKnown, fixedPlace}
+use Rattle.jump.specs.Jumps.{fieldIn, jumped, landed, unsetFrom, plannedOpen, plannedAnswer, plannedLookUp, plannedRow}
+use Rattle.jump.specs.Handles.{openedRow}
 use Rattle.adtg.specs.Plans.{blank, planBeside, Checked}
 use Rattle.grammar.specs.Grammar.{Row}
 use Rattle.batch.specs.Spans.{ownerOf, startIn, isRow, Span, spanOf, moved, spanIn, spansIn, rowsOf, spansBy}

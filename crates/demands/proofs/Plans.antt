@@ -23,11 +23,12 @@ use Rattle.tree.specs.Reader.{readNumber, readRange, readFixed, readVariable, r
 use Rattle.tree.specs.Schemas.{ownColumns, nestedSchemas, schemasOf, readSchemas, schemaAt}
 use Rattle.questions.specs.Questions.{withSchema}
 use Rattle.plan.specs.declared.plan.Plan.{Plan}
-use Rattle.plan.specs.Plans.{planOf, plannedRow, fixedPlace}
+use Rattle.plan.specs.Plans.{planOf, fixedPlace}
 use Rattle.plan.specs.Places.{placeOf}
-use Rattle.plan.proofs.Jump.{jump-row}
 use Rattle.plan.proofs.Plans.{same-columns}
 use Rattle.plan.proofs.Places.{place-exact}
+use Rattle.jump.specs.Jumps.{plannedRow}
+use Rattle.jump.proofs.Jump.{jump-row}
 use Rattle.adtg.specs.Rows.{lookUpIn}
 use Rattle.adtg.specs.Plans.{columnsOf, planIn}
 use Rattle.adtg.proofs.Selected.{asks-columns, columns-kept, columns-flags, plan-columns, columns-plan}

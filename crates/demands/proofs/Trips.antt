@@ -56,7 +56,7 @@ use Rattle.encode.specs.Trips.{numbersOf, numbersOfUpdate, numbersFrom, readOri
 use Rattle.encode.proofs.Written.{entries-at}
 use Rattle.encode.proofs.Trips as encode
 use Rattle.plan.specs.declared.plan.Plan.{Plan}
-use Rattle.plan.specs.Plans.{plannedRow}
+use Rattle.jump.specs.Jumps.{plannedRow}
 use Rattle.adtg.specs.InSchema.{inSchema}
 use Rattle.adtg.specs.Plans.{columnsOf, planIn}
 use Rattle.adtg.specs.Rows.{lookUpIn, rowEndIn}

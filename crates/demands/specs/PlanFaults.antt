@@ -10,7 +10,7 @@ use Rattle.wire.specs.declared.error.Input.{Input}
 use Rattle.wire.specs.declared.error.Input.the-variants as input
 use Rattle.wire.specs.Read.{Bytes, Read, ok, bad}
 use Rattle.wire.specs.Bits.{bitSet}
-use Rattle.wire.specs.Maps.{topBit}
+use Rattle.maps.specs.Maps.{topBit}
 use Rattle.column.specs.Columns.{isVariable}
 use Rattle.column.specs.Packed.{unpackedColumn}
 use Rattle.column.specs.Stops.{Stop, there, spanError}
@@ -19,7 +19,8 @@ use Rattle.walk.specs.Rows.{Place, place}
 use Rattle.walk.specs.Leaps.{passed, leaps}
 use Rattle.plan.specs.declared.plan.Plan.{Plan}
 use Rattle.plan.specs.Packed.{widthIn}
-use Rattle.plan.specs.Plans.{plannedWord, plannedMark, plannedGap, plannedCount, plannedMap, plannedChapters, stopsTo, byBit}
+use Rattle.plan.specs.Plans.{plannedWord, plannedMark, plannedGap, plannedCount, plannedMap, plannedChapters}
+use Rattle.jump.specs.Jumps.{stopsTo, byBit}
 use Rattle.grammar.specs.Grammar.{Row}
 use Rattle.batch.specs.Spans.{ownerOf, startIn, isRow, Span}
 use Rattle.demands.specs.Checks.{Refusals, Silent, _then_, Of, Lent, lent, Sizes, Short, Missing}

@@ -1,14 +1,7 @@
 pub mod Packed
 pub mod Made
-pub mod Laws
-pub mod AnyPlan
-pub mod Jump
 pub mod Plans
 pub mod Places
-pub mod Answers
-pub mod Inside
-pub mod Handled
-pub mod Held
 pub mod Fill
 pub mod Alike
 pub mod Named

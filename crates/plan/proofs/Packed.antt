@@ -12,7 +12,7 @@ use Rattle.column.specs.Layout.{mostColumns, padded}
 use Rattle.column.specs.Packed.{packedColumn, unpackedColumn}
 use Rattle.walk.proofs.Laws.{padded-at}
 use Rattle.plan.specs.Packed.{packed, gapIn, bitIn, beforeIn, widthIn, counted, countIn, firstIn, laid}
-use Rattle.column.proofs.StopLaws.{column-in}
+use Rattle.column.proofs.PackedLaws.{column-in}
 
 -- The parts of a column's number.
 

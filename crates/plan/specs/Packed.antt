@@ -1,6 +1,6 @@
 -- Promise: the numbers of a plan: how the parts of a column share one number, and where each number stands.
 -- Assumes nothing.
-use Prim.Native.Nat.{ℕ, zero, suc, _+_, _*_, _/_, _%_}
+use Prim.Native.Nat.{ℕ, _+_, _*_, _/_, _%_}
 use mathlib.Core.List.{List, [], _∷_, _++_}
 use Rattle.column.specs.declared.column.Column.{Column}
 use Rattle.column.specs.Columns.{width}
@@ -42,8 +42,3 @@ firstIn n = n / 256
 unfoldable pub laid : (columns stops : List ℕ) → (counts map chapters : ℕ) → List ℕ
 laid columns stops counts map chapters =
     padded mostColumns columns ++ (padded mostColumns stops ++ (counts ∷ map ∷ chapters ∷ []))
-
--- n of a kind: f i, f (i + 1) and so on
-unfoldable pub tabled : {A : Type 0} → (ℕ → A) → (n i : ℕ) → List A
-tabled f zero i = []
-tabled f (suc n) i = f i ∷ tabled f n (suc i)

@@ -1,12 +1,11 @@
 // The fixed place of a column's field, which a plan names without any row.
 ghost use mathlib.Core.Path.{_≡_};
 ghost use Prim.Native.Nat.{_≤_, _<_};
-ghost use Rattle.plan.specs.Plans.{noStops, fixedPlace};
-ghost use Rattle.plan.specs.Lent.{lent};
+ghost use Rattle.plan.specs.Plans.{noStops, fixedPlace, lent};
 ghost use Rattle.plan.specs.Told.{toldPlace};
-use crate::COUNTS;
-use crate::count_in;
-use crate::gap_in;
+use crate::parts::COUNTS;
+use crate::parts::count_in;
+use crate::parts::gap_in;
 use crate::plan::Plan;
 use column::packed::unpack;
 use wire::error::Error;

@@ -4,28 +4,44 @@ ghost use Prim.Native.Nat.{_-_, _^_, _≤_, _<_};
 ghost use lib.Dec.{eqb};
 ghost use Rattle.wire.specs.Read.{pick};
 ghost use Rattle.column.specs.Columns.{width, isChapter};
-ghost use Rattle.column.specs.Layout.{columnsFrom, columnsIn};
+ghost use Rattle.column.specs.Layout.{columnIn, columnsFrom, columnsIn};
 ghost use Rattle.walk.specs.Presence.{presenceBytes};
 ghost use Rattle.plan.specs.Packed.{packed};
 ghost use Rattle.plan.specs.Plans.{planOf};
-use crate::BEFORE;
-use crate::BIT;
-use crate::CHAPTERS;
-use crate::COUNTS;
-use crate::FIRST;
-use crate::GAP;
-use crate::MAP;
-use crate::STOPS;
-use crate::WIDTH;
-use crate::column_of;
+use crate::parts::BEFORE;
+use crate::parts::BIT;
+use crate::parts::CHAPTERS;
+use crate::parts::COUNTS;
+use crate::parts::FIRST;
+use crate::parts::GAP;
+use crate::parts::MAP;
+use crate::parts::STOPS;
+use crate::parts::WIDTH;
 use crate::plan::Plan;
 use column::column::Column;
 use column::columns::Columns;
 use column::packed::pack;
-use column::stop::stop_word;
 use row::rows::one;
 use row::rows::presence_bytes;
+use stops::stop::stop_word;
 use wire::lesser;
+
+// Column `i` of the arrays of a schema's columns.
+fn column_of<'a>(
+    codes: &'a [u8; 64],
+    flags: &'a [u8; 64],
+    maxima: &'a [u16; 64],
+    i: usize,
+) -> Column
+    requires { ⌜ i < 64 ⌝ }
+    ensures { λ r. ⌜ r ≡ columnIn (now (codes .entry)) (now (flags .entry)) (now (maxima .entry)) i ⌝ }
+{
+    Column {
+        code: codes[i],
+        flags: flags[i],
+        maximum: maxima[i],
+    }
+}
 
 // What a plan holds as the gap of a column: nothing for a chapter.
 fn gap_of(column: Column, gap: usize) -> usize

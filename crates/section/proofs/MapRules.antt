@@ -11,7 +11,7 @@ use lib.ListN.{length, getD, drop}
 use borrow.Author.Tests.{eqb-true}
 use Rattle.wire.specs.Read.{Bytes, AreBytes, ok, pick, check}
 use Rattle.wire.specs.Bits.{bitSet}
-use Rattle.wire.specs.Maps.{mapBits, topBit}
+use Rattle.maps.specs.Maps.{mapBits, topBit}
 use Rattle.wire.proofs.Laws.{whole-fits}
 use Rattle.column.specs.declared.column.Column.{Column}
 use Rattle.column.specs.Columns.{isChapter, isNullable}
@@ -21,7 +21,7 @@ use Rattle.walk.specs.Updates.{numbered, updateBytes, chapterMarked, forceBroke
 use Rattle.walk.proofs.Laws.{bit-few, length-marks, mark-at}
 use Rattle.walk.proofs.UpdateLaws.{length-numbered, number-at}
 use Rattle.section.specs.Maps.{Covers, isMarked, isNested, isUnforced, isAny, Keeps}
-use Rattle.wire.proofs.MapBits.{map-bit, bit-none, bit-within}
+use Rattle.maps.proofs.MapBits.{map-bit, bit-none, bit-within}
 
 -- Bits.
 

@@ -10,7 +10,7 @@ use lib.ListN.{length, getD, set, length-set}
 use lib.Seq.{getD-set-same, getD-set-other}
 use lib.Pow.{shr-shr}
 use lib.Bits.{bitOr}
-use Rattle.wire.specs.Maps.{topBit}
+use Rattle.maps.specs.Maps.{topBit}
 use Rattle.column.specs.declared.column.Column.{Column}
 use Rattle.column.specs.Columns.{isChapter}
 use Rattle.walk.specs.Presence.{Mark, mark, noMark, marks, bitOf}
@@ -22,7 +22,7 @@ use Rattle.tree.specs.Table.{entryIn}
 use Rattle.section.specs.Shapes.{slotColumns}
 use Rattle.section.specs.Maps.{BitAdded, isMarked, isNested, isUnforced, isAny, Masked, MasksAdded, AllMasked}
 use Rattle.section.proofs.Slots.{inSlots, length-slots, slot-asked}
-use Rattle.wire.proofs.MapBits.{bit-small, or-bit}
+use Rattle.maps.proofs.MapBits.{bit-small, or-bit}
 
 -- One bit more in a mask.
 

@@ -9,7 +9,7 @@ use native.Mathlib.Omega.{arith}
 use lib.Dec.{eqb}
 use borrow.Author.Tests.{eqb-true}
 use Rattle.wire.specs.Read.{Bytes, ok}
-use Rattle.wire.specs.Maps.{topBit}
+use Rattle.maps.specs.Maps.{topBit}
 use Rattle.column.specs.Columns.{lengthErrorOf}
 use Rattle.column.specs.Stops.{Stop, stopIn, there, lengthAt, spanAt, spanError}
 use Rattle.column.proofs.Laws.{rule-most}

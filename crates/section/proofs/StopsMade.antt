@@ -17,7 +17,7 @@ use Rattle.column.specs.declared.column.Column.{Column}
 use Rattle.column.specs.Columns.{width, isNullable, isStop}
 use Rattle.column.specs.Stops.{Stop, noStop, stopOf, stopWord, stopIn}
 use Rattle.column.proofs.Stops.{width-few}
-use Rattle.column.proofs.StopLaws.{stop-in, stop-fits}
+use Rattle.stops.proofs.StopLaws.{stop-in, stop-fits}
 use Rattle.walk.specs.Presence.{noColumn, one, nullables, presenceBytes, Mark, mark, noMark, marks, bitOf}
 use Rattle.walk.specs.Leaps.{stopsFrom, tailFrom}
 use Rattle.walk.proofs.Laws.{bit-zero, bit-next, bit-all, length-marks, mark-at, map-few}

@@ -12,12 +12,12 @@ use lib.ListN.{length, getD, drop}
 use lib.Pow.{shr-shr}
 use borrow.Author.Tests.{lt-ltb, ltb-true}
 use Rattle.wire.specs.Bits.{mapBytes, bitSet}
-use Rattle.wire.specs.Maps.{mapBits, topBit}
+use Rattle.maps.specs.Maps.{mapBits, topBit}
 use Rattle.wire.specs.Read.{Bytes, AreBytes, ok, pick}
 use Rattle.column.specs.declared.column.Column.{Column}
 use Rattle.column.specs.Columns.{width, isNullable, isStop}
 use Rattle.column.specs.Stops.{Stop, noStop, stopOf, prefixOf, there}
-use Rattle.column.proofs.StopLaws.{stop-prefix}
+use Rattle.stops.proofs.StopLaws.{stop-prefix}
 use Rattle.walk.specs.Presence.{noColumn, one, nullables, presenceBytes, Mark, noMark, marks, bitOf}
 use Rattle.walk.specs.Rows.{place, opened}
 use Rattle.walk.specs.Updates.{numbered, updateBytes, updateOpened}
@@ -29,7 +29,7 @@ use Rattle.tree.specs.Table.{schemaSlot, startIn, countIn}
 use Rattle.section.specs.Shapes.{firstIn, stopsIn, mapIn, tailIn, alwaysIn, alwaysOf, updateWords, slotColumns, Formed, Sound, Shaped}
 use Rattle.section.specs.Ways.{dataOn, dataStops, Leads, Led, Shut}
 use Rattle.section.specs.Maps.{Masked, AllMasked, Keeps}
-use Rattle.wire.proofs.MapBits.{bit-small, or-bit, without-bit}
+use Rattle.maps.proofs.MapBits.{bit-small, or-bit, without-bit}
 use Rattle.section.proofs.MapRules.{set-by, row-opens, update-opens}
 use Rattle.section.proofs.StopsMade.{one-most}
 use Rattle.section.proofs.Slots.{length-slots, slot-bytes}

@@ -7,7 +7,7 @@ use mathlib.Core.Bool.{Bool, true, false, not}
 use lib.ListN.{length, getD}
 use lib.Bits.{bitAnd}
 use Rattle.wire.specs.Read.{pick}
-use Rattle.wire.specs.Maps.{topBit}
+use Rattle.maps.specs.Maps.{topBit}
 use Rattle.column.specs.declared.column.Column.{Column}
 use Rattle.column.specs.Columns.{isChapter, isNullable}
 use Rattle.walk.specs.Presence.{Mark, noMark, marks}

@@ -8,7 +8,7 @@ use mathlib.Core.Bool.{Bool, true, false}
 use lib.ListN.{length, getD, drop}
 use Rattle.wire.specs.Read.{Bytes, Read, ok}
 use Rattle.wire.specs.Bits.{bitSet}
-use Rattle.wire.specs.Maps.{topBit}
+use Rattle.maps.specs.Maps.{topBit}
 use Rattle.column.specs.declared.column.Column.{Column}
 use Rattle.column.specs.Columns.{isNullable, isStop}
 use Rattle.column.specs.Stops.{Stop, noStop, stopIn, prefixOf, there}

@@ -9,8 +9,8 @@ ghost use Rattle.section.specs.Shapes.{formOf, Sound, Added, Updated, Sh
 ghost use Rattle.section.specs.Maps.{AllMasked};
 use crate::masks::add_masks;
 use column::packed::unpack;
-use column::stop::stop_word;
 use row::rows::one;
+use stops::stop::stop_word;
 use wire::bits::map_bytes;
 
 // How far behind the words of original rows those of update data stand.

@@ -3,13 +3,13 @@ ghost use mathlib.Core.Path.{_≡_};
 ghost use Prim.Native.Nat.{_+_, _*_, _<_, _≤_};
 ghost use Rattle.section.specs.Ways.{PassedTo};
 use column::column::allows;
-use column::stop::bit_on;
-use column::stop::gap_in;
-use column::stop::is_even_in;
-use column::stop::is_variable_in;
-use column::stop::length_at;
-use column::stop::most_in;
-use column::stop::size_in;
+use stops::stop::bit_on;
+use stops::stop::gap_in;
+use stops::stop::is_even_in;
+use stops::stop::is_variable_in;
+use stops::stop::length_at;
+use stops::stop::most_in;
+use stops::stop::size_in;
 
 // A number, or 0 where `has` is 0.
 fn kept(n: usize, has: usize) -> usize

@@ -12,8 +12,8 @@ use crate::shapes::SCHEMAS;
 use crate::shapes::STOPS;
 use crate::shapes::TAIL;
 use crate::shapes::UPDATES;
+use maps::maps::bits_at;
 use wire::bits::map_bytes;
-use wire::maps::bits_at;
 
 // A place past every section.
 pub(crate) const FAR: usize = 4_294_967_296;

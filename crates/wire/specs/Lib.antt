@@ -3,4 +3,3 @@ pub mod Read
 pub mod Integers
 pub mod Bits
 pub mod Output
-pub mod Maps

@@ -1,4 +1,4 @@
-// What every layer stands on: errors, the size limit, integers, maps of bits, also as numbers, and bytes that are matched or copied.
+// What every layer stands on: errors, the size limit, integers, maps of bits, and bytes that are matched or copied.
 // It knows nothing of headers, columns or rows.
 ghost use mathlib.Core.Path.{_≡_};
 ghost use Prim.Native.Nat.{min};
@@ -7,7 +7,6 @@ pub mod bits;
 pub mod bytes;
 pub mod error;
 pub mod integer;
-pub mod maps;
 pub mod output;
 
 // The most bytes that an input may have.

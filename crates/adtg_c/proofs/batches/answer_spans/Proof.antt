@@ -2,8 +2,8 @@
 -- Assumes nothing.
 use mathlib.Core.Path.{ap}
 use Rattle.batch.specs.Spans.{toldSpans}
-use Rattle.adtg_c.specs.Answers.{sizeValues}
-use Rattle.adtg_c.proofs.Laws.{answered-error, answered-value}
+use Rattle.answers.specs.Answers.{sizeValues}
+use Rattle.answers.proofs.Laws.{answered-error, answered-value}
 use borrow.Author.Needs.{needs}
 use Rattle.adtg_c.proofs.batches.answer_spans.Statement.{statement}
 use Rattle.adtg_c.proofs.batches.answer_spans.Tie as tie

@@ -2,8 +2,8 @@
 -- Assumes nothing.
 use mathlib.Core.Path.{refl, sym, ap, _∙_}
 use Rattle.header.specs.Header.{toldHeader}
-use Rattle.adtg_c.specs.Answers.{headerValues}
-use Rattle.adtg_c.proofs.Laws.{answered-error, answered-value}
+use Rattle.adtg_c.specs.FileAnswers.{headerValues}
+use Rattle.answers.proofs.Laws.{answered-error, answered-value}
 use borrow.Author.Needs.{needs}
 use Rattle.adtg_c.proofs.head.adtg_read_header.Statement.{statement}
 use Rattle.adtg_c.proofs.head.adtg_read_header.Tie as tie

@@ -2,8 +2,8 @@
 -- Assumes nothing.
 use mathlib.Core.Path.{refl, sym, ap, _∙_}
 use Rattle.options.specs.Options.{toldOptions}
-use Rattle.adtg_c.specs.Answers.{optionsValues}
-use Rattle.adtg_c.proofs.Laws.{answered-error, answered-value}
+use Rattle.adtg_c.specs.FileAnswers.{optionsValues}
+use Rattle.answers.proofs.Laws.{answered-error, answered-value}
 use borrow.Author.Needs.{needs}
 use Rattle.adtg_c.proofs.head.adtg_read_options.Statement.{statement}
 use Rattle.adtg_c.proofs.head.adtg_read_options.Tie as tie

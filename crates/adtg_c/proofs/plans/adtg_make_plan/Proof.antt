@@ -1,12 +1,5 @@
 -- The numbers are those of what was made.
 -- Assumes nothing.
-use mathlib.Core.Path.{_≡_, sym, ap, _∙_}
-use Rattle.wire.specs.declared.error.Error.{Error}
-use Rattle.wire.specs.Read.{Read, ok, refused}
-use Rattle.questions.specs.declared.file.Found.{Found}
-use Rattle.plan.specs.declared.plan.Plan.{Plan}
-use Rattle.adtg.specs.Plans.{toldPlan, planIn}
-use Rattle.adtg_c.specs.PlanAnswers.{planAnswer}
 use Rattle.adtg_c.proofs.PlanLaws.{made-refused, made-found}
 use borrow.Author.Needs.{needs}
 use Rattle.adtg_c.proofs.plans.adtg_make_plan.Statement.{statement}

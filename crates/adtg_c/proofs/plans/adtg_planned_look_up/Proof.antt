@@ -1,7 +1,7 @@
 -- The value is that of the call.
 -- Assumes nothing.
 use mathlib.Core.Path.{ap, _∙_}
-use Rattle.adtg_c.specs.PlanAnswers.{foundAnswer}
+use Rattle.answers.specs.PlanAnswers.{foundAnswer}
 use borrow.Author.Needs.{needs}
 use Rattle.adtg_c.proofs.plans.adtg_planned_look_up.Statement.{statement}
 use Rattle.adtg_c.proofs.plans.adtg_planned_look_up.Tie as tie

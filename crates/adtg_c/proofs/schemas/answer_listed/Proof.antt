@@ -2,8 +2,8 @@
 -- Assumes nothing.
 use mathlib.Core.Path.{refl, ap}
 use Rattle.numbers.specs.Writer.{toldListed}
-use Rattle.adtg_c.specs.Answers.{sizeValues}
-use Rattle.adtg_c.proofs.Laws.{answered-error, answered-value}
+use Rattle.answers.specs.Answers.{sizeValues}
+use Rattle.answers.proofs.Laws.{answered-error, answered-value}
 use borrow.Author.Needs.{needs}
 use Rattle.adtg_c.proofs.schemas.answer_listed.Statement.{statement}
 use Rattle.adtg_c.proofs.schemas.answer_listed.Tie as tie

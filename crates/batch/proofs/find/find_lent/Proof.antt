@@ -10,7 +10,7 @@ use Rattle.wire.specs.declared.error.Input.the-variants as input
 use Rattle.wire.specs.declared.error.ErrorKind.the-variants as error
 use Rattle.wire.specs.Output.{put}
 use Rattle.wire.proofs.Laws.{length-put}
-use Rattle.plan.specs.Lent.{lent}
+use Rattle.plan.specs.Plans.{lent}
 use Rattle.batch.specs.Spans.{rowsOf, spansIn, planned}
 use Rattle.batch.proofs.Laid.{length-laid}
 use Rattle.batch.proofs.Finding.{spans-told, spans-laid, error-told, found-large, found-refused, found-full, found-spans, found-held}

@@ -2,7 +2,7 @@
 -- Assumes nothing.
 use Prim.Native.Nat.{ℕ, _-_}
 use mathlib.Core.Path.{sym, ap, _∙_}
-use Rattle.plan.specs.Lent.{lent}
+use Rattle.plan.specs.Plans.{lent}
 use Rattle.batch.specs.Spans.{spanIn, planned}
 use Rattle.batch.specs.Scan.{toldSpan}
 use Rattle.batch.proofs.Pass.{AtRow, at-start, at-other, at-span, at-refused, at-end}

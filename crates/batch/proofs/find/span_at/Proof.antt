@@ -3,7 +3,7 @@
 use mathlib.Core.Path.{sym, ap, _∙_}
 use native.Mathlib.Omega.{arith}
 use Rattle.row.specs.Told.{toldLookUp}
-use Rattle.plan.specs.Lent.{lent}
+use Rattle.plan.specs.Plans.{lent}
 use Rattle.batch.proofs.Parts.{span-null, span-chapter, span-found, span-refused, found-inside, refused-inside}
 use borrow.Author.Needs.{needs}
 use Rattle.batch.proofs.find.span_at.Statement.{statement}

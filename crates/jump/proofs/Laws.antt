@@ -1,0 +1,237 @@
+-- The ways of a look-up through a plan, for the functions' proofs.
+-- Assumes nothing.
+use Prim.Native.Nat.{ℕ, zero, suc, _+_, _*_, _-_, _/_, _≤_, _<_}
+use mathlib.Core.List.{List, [], _∷_, map}
+use mathlib.Core.Bool.{Bool, true, false, not}
+use mathlib.Core.Path.{_≡_, refl, sym, ap, _∙_}
+use native.Mathlib.Omega.{arith}
+use lib.Dec.{ltb, eqb}
+use lib.Bits.{bitAnd, and-zero-r}
+use borrow.Author.Tests.{lt-ltb, le-ltb, ne-eqb, eqb-true}
+use Rattle.wire.specs.declared.error.Input.{Input}
+use Rattle.wire.specs.declared.error.Input.the-variants as input
+use Rattle.wire.specs.Read.{Bytes, AreBytes, Read, ok, bad, _>>=_, pick, check}
+use Rattle.wire.specs.Bits.{bitAt, bitSet}
+use Rattle.maps.specs.Maps.{mapBits, topBit}
+use Rattle.maps.proofs.MapBits.{bit-small, map-bit, bit-none}
+use Rattle.column.specs.declared.column.Column.{Column}
+use Rattle.column.specs.declared.field.Field.{Field}
+use Rattle.column.specs.Columns.{isVariable, isStop, lengthErrorOf}
+use Rattle.column.specs.Fields.{variableAt}
+use Rattle.column.specs.Stops.{Stop, stopIn, prefixOf, there, lengthAt, spanAt, spanError}
+use Rattle.column.proofs.Laws.{field-variable, field-told}
+use Rattle.stops.proofs.StopLaws.{stop-bit-small}
+use Rattle.walk.specs.Presence.{one}
+use Rattle.walk.specs.Rows.{Place, place}
+use Rattle.walk.specs.Leaps.{passed, leaps}
+use Rattle.walk.proofs.Leap.{span-long, error-long}
+use Rattle.row.specs.declared.rows.WalkRead.{WalkRead}
+use Rattle.row.specs.declared.rows.WalkRead.the-variants as walk
+use Rattle.plan.specs.declared.plan.Plan.{Plan}
+use Rattle.plan.specs.Packed.{beforeIn}
+use Rattle.plan.specs.Plans.{plannedWord, plannedColumn, plannedFirst}
+use Rattle.jump.specs.Jumps.{tabled, startsBefore, stopsGone, byBit, unsetFrom, unset}
+use Rattle.jump.specs.Lent.{Near, BitsOf, over}
+
+-- The first bits of a row as a number.
+
+pub bits-of : (row : Bytes) → AreBytes row → {bits : ℕ} → bits ≡ mapBits row 0 → BitsOf row bits
+unfolding bitSet
+bits-of row o {bits} e i h =
+    let q : topBit bits i ≡ bitAt row i = ap (λ (b : ℕ). topBit b i) e ∙ map-bit row 0 i o h in
+    q ∙ go (bitAt row i) (omega (arith, q, bit-small bits i))
+  where
+    go : (x : ℕ) → x ≤ 1 → x ≡ one (eqb x 1)
+    go zero h = refl
+    go (suc zero) h = refl
+    go (suc (suc x)) h = absurd (omega arith)
+
+one-told : (t : Bool) → eqb (one t) 1 ≡ t
+one-told true = refl
+one-told false = refl
+
+module _ (word : ℕ) (row : Bytes) (bits : ℕ) (b : BitsOf row bits) {n : ℕ} (e : n ≡ topBit bits (stopIn word .bit)) where
+  stop-bit : n ≡ one (bitSet row (stopIn word .bit))
+  stop-bit = e ∙ b (stopIn word .bit) (stop-bit-small word)
+
+  -- a stop whose bit decides
+  pub there-bit : {t : Bool} → t ≡ stopIn word .free → t ≡ true → eqb n 1 ≡ there (bitSet row) (stopIn word)
+  there-bit f h = rw (← f, h, stop-bit) (one-told (bitSet row (stopIn word .bit)))
+
+  -- Past a stop of fixed width.
+  pub passed-fixed :
+      (w : Place) {g s : ℕ} → g ≡ stopIn word .gap → s ≡ stopIn word .size → stopIn word .variable ≡ false →
+      ok (place (w .at + (g + s * n)) (w .prefixes)) ≡ passed (bitSet row) row (byBit (stopIn word)) w
+  unfolding passed byBit spanAt spanError
+  passed-fixed w {g} {s} eg es v =
+      let z : w .at + (g + s * n) ≡ w .at + g + s * n = omega (arith) in
+      ap (λ (q : ℕ). ok (place q (w .prefixes))) z ∙ rw (stop-bit, eg, es, v) (go (bitSet row (stopIn word .bit)))
+    where
+      go :
+          (t : Bool) →
+          ok (place (w .at + stopIn word .gap + stopIn word .size * one t) (w .prefixes))
+          ≡ pick t (ok (place (w .at + stopIn word .gap + stopIn word .size) (w .prefixes + 0))) (ok (place (w .at + stopIn word .gap) (w .prefixes)))
+      go true =
+          let x : stopIn word .size * 1 ≡ stopIn word .size = omega arith in
+          let y : w .prefixes + 0 ≡ w .prefixes = omega arith in
+          rw (x, y) refl
+      go false = let x : w .at + stopIn word .gap + stopIn word .size * 0 ≡ w .at + stopIn word .gap = omega arith in rw x refl
+
+pub there-always : (word : ℕ) (row : Bytes) {t : Bool} → t ≡ stopIn word .free → t ≡ false → true ≡ there (bitSet row) (stopIn word)
+there-always word row f h = rw (← f, h) refl
+
+-- Past a stop of variable length.
+
+module _ (word : ℕ) (row : Bytes) (w : Place) {g : ℕ} (eg : g ≡ stopIn word .gap) (v : stopIn word .variable ≡ true) where
+  pub passed-absent :
+      there (bitSet row) (stopIn word) ≡ false → ok (place (w .at + g) (w .prefixes)) ≡ passed (bitSet row) row (byBit (stopIn word)) w
+  unfolding passed byBit
+  passed-absent h = rw (eg, v, h) refl
+
+  pub passed-there :
+      there (bitSet row) (stopIn word) ≡ true → over (stopIn word) row (w .at + g) (w .prefixes) ≡ passed (bitSet row) row (byBit (stopIn word)) w
+  unfolding passed byBit spanAt spanError lengthAt
+  passed-there h = rw (eg, v, h) refl
+
+-- by its length
+module _
+    (t : Stop) (row : Bytes) (at prefixes : ℕ) (v : t .variable ≡ true) {l m : ℕ} {even : Bool} (el : l ≡ lengthAt t row at) (em : m ≡ t .most)
+    (ee : even ≡ t .even) {e : ℕ} (h : e ≡ lengthErrorOf m even l) where
+  error-told : spanError t row at ≡ e
+  error-told = error-long t row at v ∙ sym (rw (el, em, ee) at h)
+
+  pub over-refused : 0 < e → bad e at input.Single ≡ over t row at prefixes
+  over-refused p = rw (error-told, ne-eqb e 0 (λ z. omega (arith, z))) refl
+
+  pub over-past : {p : ℕ} → p ≡ prefixOf t → e ≡ 0 → ok (place (at + p + l) (prefixes + 1)) ≡ over t row at prefixes
+  over-past {p} ep z =
+      let q : at + (prefixOf t + lengthAt t row at) ≡ at + p + l = omega (arith, el, ep) in
+      rw (error-told, z, span-long t row at v, q, v) refl
+
+-- a bound may be greater
+pub near-more : (r : WalkRead) (m n prefixes : ℕ) → m ≤ n → Near m prefixes r → Near n prefixes r
+near-more (walk.At position count) m n prefixes h (a, b) = (omega arith, b)
+near-more (walk.Refused e) m n prefixes h a = tt
+
+-- a size, or nothing
+pub times-one : (w o : ℕ) → o ≤ 1 → w * o ≤ w
+times-one w zero h = omega arith
+times-one w (suc zero) h = omega arith
+times-one w (suc (suc o)) h = absurd (omega arith)
+
+-- The way over a list of stops, from its number j on.
+
+module _ (row : Bytes) (n : ℕ) (f : ℕ → Stop) (j : ℕ) (w : Place) where
+  abbrev left : List Stop
+  left = map byBit (tabled f (n - j) j)
+
+  pub leaps-end : n ≤ j → leaps (bitSet row) row left w ≡ ok w
+  unfolding tabled leaps
+  leaps-end h = let z : n - j ≡ 0 = omega arith in rw z refl
+
+  module _ (h : j < n) where
+    one-more : left ≡ byBit (f j) ∷ map byBit (tabled f (n - (j + 1)) (j + 1))
+    unfolding tabled
+    one-more =
+        let z : n - j ≡ suc (n - (j + 1)) = omega arith in
+        let y : suc j ≡ j + 1 = omega arith in
+        rw (z, y) refl
+
+    pub leaps-next :
+        {v : Place} → passed (bitSet row) row (byBit (f j)) w ≡ ok v →
+        leaps (bitSet row) row left w ≡ leaps (bitSet row) row (map byBit (tabled f (n - (j + 1)) (j + 1))) v
+    unfolding leaps
+    leaps-next e = ap (λ (l : List Stop). leaps (bitSet row) row l w) one-more ∙ rw e refl
+
+    pub leaps-refused : {e o : ℕ} {i : Input} → passed (bitSet row) row (byBit (f j)) w ≡ bad e o i → leaps (bitSet row) row left w ≡ bad e o i
+    unfolding leaps
+    leaps-refused e = ap (λ (l : List Stop). leaps (bitSet row) row l w) one-more ∙ rw e refl
+
+-- How many stops there are.
+
+module _ (p : Plan) (k : ℕ) where
+  pub starts-behind : {i : ℕ} → i ≡ plannedFirst p → k ≤ i → startsBefore p k ≡ false
+  unfolding startsBefore
+  starts-behind e h = rw (← e, le-ltb _ k h) refl
+
+  pub starts-at : {i : ℕ} → i ≡ plannedFirst p → i < k → startsBefore p k ≡ isStop (plannedColumn p i)
+  unfolding startsBefore
+  starts-at e h = rw (← e, lt-ltb _ k h) refl
+
+  pub gone-none : startsBefore p k ≡ false → stopsGone p k ≡ 0
+  unfolding stopsGone
+  gone-none e = rw e refl
+
+  pub gone-all : startsBefore p k ≡ true → stopsGone p k ≡ beforeIn (plannedWord p k)
+  unfolding stopsGone
+  gone-all e = rw e refl
+
+  pub gone-few : beforeIn (plannedWord p k) ≡ 0 → stopsGone p k ≡ 0
+  unfolding stopsGone
+  gone-few e = rw e (go (startsBefore p k))
+    where
+      go : (t : Bool) → _≡_ {A = ℕ} (pick t 0 0) 0
+      go true = refl
+      go false = refl
+
+-- Bits that must not be set.
+
+module _ (row : Bytes) (mask : ℕ) where
+  abbrev pub marked : ℕ → Bool
+  marked b = pick (eqb (topBit mask b) 1) (bitSet row b) false
+
+  pub marked-set : (b : ℕ) {t : Bool} → topBit mask b ≡ 1 → t ≡ bitSet row b → t ≡ marked b
+  marked-set b e h = rw e h
+
+  pub marked-none : (b : ℕ) → (topBit mask b ≡ 1 → ⊥) → false ≡ marked b
+  marked-none b e = rw (ne-eqb _ _ e) refl
+
+  module _ {b : ℕ} (h : b < 64) where
+    one-bit : unsetFrom row mask (64 - b) b ≡ check (not (marked b)) 12 (b / 8) >>= (λ (u : Unit {0}). unsetFrom row mask (64 - (b + 1)) (b + 1))
+    unfolding unsetFrom
+    one-bit =
+        let z : 64 - b ≡ suc (64 - (b + 1)) = omega arith in
+        let y : suc b ≡ b + 1 = omega arith in
+        rw (z, y) refl
+
+    pub unset-found : marked b ≡ true → unsetFrom row mask (64 - b) b ≡ bad 12 (b / 8) input.Single
+    unfolding check
+    unset-found e = one-bit ∙ rw e refl
+
+    pub unset-next : marked b ≡ false → unsetFrom row mask (64 - b) b ≡ unsetFrom row mask (64 - (b + 1)) (b + 1)
+    unfolding check
+    unset-next e = one-bit ∙ rw e refl
+
+  pub unset-end : {b : ℕ} → 64 ≤ b → unsetFrom row mask (64 - b) b ≡ ok tt
+  unfolding unsetFrom
+  unset-end {b} h = let z : 64 - b ≡ 0 = omega arith in rw z refl
+
+  -- none where no bit of the mask is one of the map's
+  module _ (none : (b : ℕ) → b < 64 → marked b ≡ false) where
+    unset-rest : (n b : ℕ) → b + n ≡ 64 → unsetFrom row mask n b ≡ ok tt
+    unfolding unsetFrom check
+    unset-rest zero b e = refl
+    unset-rest (suc n) b e = rw (none b (omega arith)) (unset-rest n (suc b) (omega arith))
+
+  pub unset-apart : AreBytes row → {bits : ℕ} → bits ≡ mapBits row 0 → bitAnd bits mask ≡ 0 → ok tt ≡ unset row mask
+  unset-apart o {bits} e a = sym (unset-rest none 64 0 (omega arith))
+    where
+      none : (b : ℕ) → b < 64 → marked b ≡ false
+      none b h = go (eqb (topBit mask b) 1) refl
+        where
+          go : (t : Bool) → eqb (topBit mask b) 1 ≡ t → pick t (bitSet row b) false ≡ false
+          go true x =
+              let z : one (bitSet row b) ≡ 0 = sym (bits-of row o e b h) ∙ bit-none bits mask b a (eqb-true _ _ x) in
+              sym (one-told (bitSet row b)) ∙ ap (λ (n : ℕ). eqb n 1) z
+          go false x = refl
+
+  pub unset-nothing : AreBytes row → mask ≡ 0 → ok tt ≡ unset row mask
+  unset-nothing o e = unset-apart o refl (rw e (and-zero-r (mapBits row 0)))
+
+-- The field of the column itself.
+
+pub variable-one : (c : Column) (row : Bytes) (at : ℕ) {f : Field} → isVariable c ≡ true → variableAt c row at ≡ ok f → f .prefixes ≤ 1
+variable-one c row at {f} v e =
+    let t = field-told c row at (field-variable c row at v ∙ e) in
+    let n : f .prefixes ≡ 1 = rw v at (t .counts) in
+    omega arith

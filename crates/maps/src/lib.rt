@@ -1,0 +1,3 @@
+// Maps of bits as numbers.
+
+pub mod maps;
