@@ -5,6 +5,7 @@ ghost use Prim.Native.Nat.{_<_};
 ghost use Rattle.column.specs.Layout.{columnIn};
 use column::column::Column;
 
+pub mod marks;
 pub mod parts;
 pub mod rows;
 

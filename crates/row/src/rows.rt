@@ -78,7 +78,7 @@ pub fn one(so: bool) -> usize
 }
 
 // How many of the first `n` columns are nullable.
-fn count_nullable<'a>(
+pub(crate) fn count_nullable<'a>(
     codes: &'a [u8; 64],
     flags: &'a [u8; 64],
     maxima: &'a [u16; 64],
@@ -109,7 +109,7 @@ pub fn presence_bytes<'a>(
 }
 
 // Opens the row at `at`: its map is whole and no chapter's bit is set. Where its data start.
-fn open_row<'a>(
+pub(crate) fn open_row<'a>(
     codes: &'a [u8; 64],
     flags: &'a [u8; 64],
     maxima: &'a [u16; 64],

@@ -24,7 +24,7 @@ use Rattle.section.specs.Heads.{HeadAt, headAt}
 use Rattle.section.specs.Table.{rowNumbers, SmallRow}
 use Rattle.section.specs.Scan.{laidFrom, Filled}
 use Rattle.section.specs.Sizes.{endBy, placeIn, elementStart, elementSize, noteBytes, noteStart, NotedAs, in-one, in-three, NotedOr0, Accepted, NotedThere, NotedIs, kindBy, startBy, rowBy, EntryAt}
-use Rattle.section.specs.Ways.{dataEnd}
+use Rattle.walk.specs.Data.{dataEnd}
 use Rattle.section.proofs.RowsByHead.{HeadTold, told-done, told-delete, told-parent, told-child, told-change}
 use Rattle.section.proofs.Scan.{allRows, AtElement, Begun, at-start, told, head-refused, head-done, deleted, Ahead, head-ahead, data-refused, data-inside, row-ended, change-ended, table-long}
 use Rattle.section.proofs.Noting.{bytes-one, bytes-three, data-ends, delete-ends}

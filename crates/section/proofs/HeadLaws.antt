@@ -21,7 +21,7 @@ use Rattle.tree.proofs.Children.{child-found}
 use Rattle.grammar.specs.Grammar.{Before, other}
 use Rattle.grammar.specs.Reader.{Token, childToken, changeToken, deleteToken, doneToken, unknownToken, tokenOf, knownChild, follows, idAt}
 use Rattle.section.specs.Heads.{doneHead, deleteHead, dataHead, headBy, headAt, beforeIn, pairedId}
-use Rattle.section.specs.Shapes.{Sound}
+use Rattle.shapes.specs.Shapes.{Sound}
 
 -- The id behind a token, read or not.
 module _ (s : Bytes) (at : ℕ) where

@@ -6,7 +6,7 @@ use mathlib.Core.Logic.{_⊎_, inl, inr}
 use mathlib.Core.List.{List}
 use native.Mathlib.Omega.{arith}
 use native.Mathlib.Nat.{eq-or-lt-of-le}
-use lib.ListN.{length, getD, set, length-set}
+use lib.ListN.{length, getD, set, length-set, replicate, length-replicate}
 use lib.Seq.{getD-set-same, getD-set-other}
 use lib.Dec.{eqb}
 use borrow.Author.Tests.{lt-ltb, le-ltb}
@@ -15,8 +15,8 @@ use Rattle.tree.specs.Schemas.{Schema}
 use Rattle.grammar.specs.Grammar.{Before, columnsAt}
 use Rattle.grammar.specs.Reader.{doneToken, tokenOf, knownChild}
 use Rattle.section.specs.Heads.{deleteHead, dataHead}
-use Rattle.section.specs.Ways.{dataEnd}
-use Rattle.section.specs.Sizes.{endBy, placeIn, elementStart, elementSize, noteBytes, noteStart, NotedAs, in-one, in-three, Noted, NotedOr0, NotedAt}
+use Rattle.walk.specs.Data.{dataEnd}
+use Rattle.section.specs.Sizes.{endBy, placeIn, elementStart, elementSize, noteBytes, noteStart, NotedAs, in-one, in-three, Noted, NotedOr0, NotedAt, RoomForSizes}
 use Rattle.section.proofs.RowsByHead.{HeadTold, told-delete, told-parent, told-child, told-change}
 
 -- Before an element at `at`, the sizes of all before it are noted, in so many bytes.
@@ -170,3 +170,10 @@ pub note-none : (l : List ℕ) (i size : ℕ) → 1 ≤ length l → NotedAt l (
 note-none l i size h =
     let z : getD (set l 0 0) 0 0 ≡ 0 = getD-set-same l 0 0 0 (omega arith) in
     record { long = length-set l 0 0; onward = simp length-set h; stays = λ p e. z; notes = inl z }
+
+-- the room that zeros have, without counting them
+pub zeros : (n : ℕ) → length (replicate {A = ℕ} n 0) ≡ n
+zeros n = length-replicate n 0
+
+pub room-of : (n : ℕ) → 1 ≤ n → n ≤ 16777216 → RoomForSizes (replicate {A = ℕ} n 0)
+room-of n h l = record { some = omega (arith, zeros n); most = omega (arith, zeros n) }

@@ -16,7 +16,7 @@ use Rattle.grammar.specs.Grammar.{Before, other, after, columnsAt, Row, entry}
 use Rattle.grammar.specs.Reader.{Token, parentToken, childToken, changeToken, deleteToken, doneToken, unknownToken, tokenOf, knownChild, follows, idAt}
 use Rattle.grammar.specs.Pending.{Pending, nothing, child-row, beforeOf, flush, close, turn, rowsFrom}
 use Rattle.section.specs.Heads.{HeadAt, doneHead, deleteHead, dataHead, headBy, headAt, beforeIn, pendingIn}
-use Rattle.section.specs.Ways.{dataEnd}
+use Rattle.walk.specs.Data.{dataEnd}
 use Rattle.section.proofs.HeadLaws.{whole-inside, id-end}
 
 -- what is pending behind row data of a kind

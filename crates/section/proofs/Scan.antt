@@ -21,7 +21,7 @@ use Rattle.grammar.proofs.Ends.{row-ends, update-ends}
 use Rattle.section.specs.Heads.{HeadAt, doneHead, deleteHead, dataHead, headAt}
 use Rattle.section.specs.Table.{rowNumbers}
 use Rattle.section.specs.Scan.{laidFrom}
-use Rattle.section.specs.Ways.{dataEnd}
+use Rattle.walk.specs.Data.{dataEnd}
 use Rattle.section.proofs.HeadLaws.{id-small}
 use Rattle.section.proofs.RowsByHead.{resumed, pendingAfter, rowsAfter, rows-step, HeadTold, told-delete, told-parent, told-child, told-change, head-told}
 use Rattle.section.proofs.Laid.{laid-more, laid-again, length-laid}

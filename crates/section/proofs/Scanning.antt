@@ -27,9 +27,9 @@ use Rattle.section.specs.declared.read.RowsRead.the-variants as read
 use Rattle.section.specs.Heads.{HeadAt, doneHead, deleteHead, dataHead, headAt, beforeIn, pendingIn}
 use Rattle.section.specs.Table.{rowNumbers, SmallRow}
 use Rattle.section.specs.Scan.{laidFrom, Scanned}
-use Rattle.section.specs.Shapes.{Sound, Held, slotColumns}
+use Rattle.shapes.specs.Shapes.{Sound, Held, slotColumns}
 use Rattle.section.specs.Sizes.{NotedOr0, NotedAt, RoomForSizes}
-use Rattle.section.specs.Ways.{dataEnd}
+use Rattle.walk.specs.Data.{dataEnd}
 use Rattle.section.proofs.RowsByHead.{pendingAfter, before-pending, HeadTold, told-done, told-parent, told-child, told-change}
 use Rattle.section.proofs.Scan.{allRows, AtElement, Begun, at-start, told, head-refused, head-done, deleted, Ahead, head-ahead, data-refused, data-inside, row-ended, change-ended, table-long}
 use Rattle.section.proofs.Noting.{AtNote, noted-start, noted-next, noted-all, data-ends, delete-ends}

@@ -22,7 +22,7 @@ use Rattle.tree.proofs.TableSays.{schemas-in-length, schemas-in-at}
 use Rattle.tree.proofs.Theorem.{file-of-iff}
 use Rattle.tree.proofs.Filled.{schemas-read, slots-of}
 use Rattle.schema.proofs.Tabled.{blank-long, tabled-read}
-use Rattle.section.specs.Shapes.{Sound}
+use Rattle.shapes.specs.Shapes.{Sound}
 
 -- A table that says the schemas of a well-formed file.
 module _ (t : Tree) (good : WellFormed t) (n : ℕ) (slots : List ℕ) (says : schemasOf t ≡ schemasIn 0 n slots) where

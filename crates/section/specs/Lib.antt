@@ -1,8 +1,6 @@
 pub mod Table
 -- Inner.
-pub mod Ways
-pub mod Shapes
-pub mod Maps
+pub mod Ends
 pub mod Heads
 pub mod Sizes
 pub mod Scan

@@ -11,15 +11,14 @@ use Rattle.tree.specs.Schemas.{Schema}
 use Rattle.grammar.specs.Grammar.{Row}
 use Rattle.grammar.specs.Reader.{section}
 use Rattle.section.specs.Table.{rowNumbers, rowCount, toldRows}
-use Rattle.section.specs.Shapes.{Sound, Shaped}
-use Rattle.section.specs.Maps.{AllMasked}
+use Rattle.shapes.specs.Shapes.{Sound}
+use Rattle.shapes.specs.Masks.{Shaped}
 use Rattle.section.specs.Sizes.{NotedOr0, Accepted}
 
 -- What a pass is given: a table of slots, what was made of it, and a section that is not over the limit.
-pub record Ready (slots words forms masks : List ℕ) (n : ℕ) (s : Bytes) : Type 0 where
+pub record Ready (slots shapes : List ℕ) (n : ℕ) (s : Bytes) : Type 0 where
   pub sound : Sound slots n
-  pub shaped : Shaped slots words forms n
-  pub masked : AllMasked slots masks n
+  pub shaped : Shaped slots shapes n
   pub sized : length s ≤ 16777216
 
 -- a table with rows laid into it, the first as row i; a row that does not fit leaves it

@@ -1,32 +1,75 @@
-// Where row data end, or why not, by the columns one after the other: what the way by words does not say.
+// Where row data end: by the shapes, or else by their columns one after the other, which say where or why not.
 ghost use mathlib.Core.Path.{_≡_};
+ghost use Prim.Native.Nat.{_+_, _≤_};
+ghost use lib.Dec.{eqb};
+ghost use lib.ListN.{length};
+ghost use Rattle.wire.specs.Read.{pick};
 ghost use Rattle.wire.specs.Integers.{toldInt};
-ghost use Rattle.section.specs.Shapes.{Held, slotColumns};
-ghost use Rattle.section.specs.Ways.{dataEnd};
-use crate::shapes::PART;
-use crate::shapes::SCHEMAS;
-use row::rows::row_end;
+ghost use Rattle.shapes.specs.Shapes.{Held, slotColumns};
+ghost use Rattle.section.specs.Ends.{QuickEnd, turned};
+use quick::ends::quick_row;
+use quick::ends::quick_update;
 use schema::columns::columns_in;
-use update::updates::update_end;
+use shapes::shapes::PART;
+use shapes::shapes::SCHEMAS;
+use update::data::open_data;
+use update::data::pass_column;
 use wire::integer::IntRead;
 
-// Where the data at `start` of a row of schema `number` end: of update data where `update` says so.
-pub(crate) fn patient_end(
+// Where the data at `start` of a row of schema `number` end: of update data where `update` says so. 0 says nothing.
+pub(crate) fn quick_end(
+    shapes: &[usize],
+    number: usize,
+    update: bool,
+    section: &[u8],
+    start: usize,
+) -> usize
+    ensures { λ r. ⌜ QuickEnd (now (shapes .entry)) number update (now (section .entry)) start r ⌝ }
+{
+    if update {
+        if number == 0 {
+            return 0;
+        }
+        return quick_update(shapes, number, section, start);
+    }
+    quick_row(shapes, number, section, start)
+}
+
+// How many turns are done where the quick way says `end`: all of `count` columns and the opening, or none.
+pub(crate) fn turns_done(end: usize, count: usize) -> usize
+    requires { ⌜ count ≤ 65536 ⌝ }
+    ensures { λ r. ⌜ r ≡ pick (eqb end 0) 0 (count + 1) ⌝ }
+{
+    if end == 0 { 0 } else { count + 1 }
+}
+
+// How many columns schema `number` has.
+pub(crate) fn count_of(slots: &[u64; 512], number: usize) -> usize
+    requires { ⌜ Held (now slots) number ⌝ }
+    ensures { λ r. ⌜ (r ≡ length (slotColumns (now (slots .entry)) number)) × (r ≤ 64) ⌝ }
+{
+    (slots[SCHEMAS + number] / PART % PART) as usize
+}
+
+// One turn over row data: first they are opened, then each column is passed, from where the turn before came to.
+pub(crate) fn turn(
     slots: &[u64; 512],
     number: usize,
     update: bool,
     section: &[u8],
     start: usize,
+    i: usize,
+    at: usize,
 ) -> IntRead
-    requires { ⌜ Held (now slots) number ⌝ }
-    ensures { λ r. ⌜ toldInt r ≡ dataEnd update (slotColumns (now (slots .entry)) number) (now (section .entry)) start ⌝ }
+    requires { ⌜ Held (now slots) number × (i ≤ length (slotColumns (now slots) number)) ⌝ }
+    ensures { λ r. ⌜ toldInt r ≡ turned update (slotColumns (now (slots .entry)) number) (now (section .entry)) start at i ⌝ }
 {
     let slot = slots[SCHEMAS + number];
     let first = (slot % PART) as usize;
     let count = (slot / PART % PART) as usize;
     let columns = columns_in(slots, first, count);
-    if update {
-        return update_end(columns, section, start);
+    if i == 0 {
+        return open_data(columns, update, section, start);
     }
-    row_end(columns, section, start)
+    pass_column(columns, update, section, start, i - 1, at)
 }

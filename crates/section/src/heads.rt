@@ -5,7 +5,7 @@ ghost use mathlib.Core.List.{[]};
 ghost use lib.ListN.{length};
 ghost use Rattle.wire.specs.Integers.{toldInt};
 ghost use Rattle.tree.specs.Table.{schemasIn};
-ghost use Rattle.section.specs.Shapes.{Sound};
+ghost use Rattle.shapes.specs.Shapes.{Sound};
 ghost use Rattle.section.specs.Heads.{headAt, headBy, beforeIn, pairedId, toldHead};
 ghost use Rattle.grammar.specs.Grammar.{other};
 ghost use Rattle.grammar.specs.Reader.{childToken, changeToken, deleteToken, doneToken};
@@ -42,20 +42,14 @@ pub enum Head {
 }
 
 // An 87 element's head.
-fn child_head<'a>(
-    slots: &'a [u64; 512],
-    numbers: &'a [u8; 256],
-    schemas: usize,
-    section: &[u8],
-    at: usize,
-) -> Head
+fn child_head(slots: &[u64; 512], schemas: usize, section: &[u8], at: usize, last: usize) -> Head
     requires { ⌜ Sound (now slots) schemas × (at < length (now section)) ⌝ }
     ensures { λ r. ⌜ toldHead r ≡ headBy (schemasIn 0 schemas (now (slots .entry))) (now (section .entry)) (beforeIn (now (slots .entry)) 0) at childToken ⌝ }
 {
     match u32_at(section, at + 1) {
         IntRead::Refused(e) => Head::Refused(e),
         IntRead::Int(id) => {
-            let number = find_child(slots, numbers, schemas, id);
+            let number = find_child(slots, schemas, last, id);
             if number == 0 {
                 return Head::Refused(Error {
                     kind: ErrorKind::UnknownId,
@@ -137,14 +131,15 @@ fn done_head(section: &[u8], at: usize) -> Head
     })
 }
 
-// The head of the element at `at`, where `child` is the schema number of an 87 element directly before it, else 0.
-pub(crate) fn head_at<'a>(
-    slots: &'a [u64; 512],
-    numbers: &'a [u8; 256],
+// The head of the element at `at`, where `child` is the schema number of an 87 element directly before it, else 0, and `last` that of the last
+// child, where there was one.
+pub(crate) fn head_at(
+    slots: &[u64; 512],
     schemas: usize,
     section: &[u8],
     at: usize,
     child: usize,
+    last: usize,
 ) -> Head
     requires { ⌜ Sound (now slots) schemas × (child < schemas) × (length (now section) ≤ 16777216) ⌝ }
     ensures { λ r. ⌜ toldHead r ≡ headAt (schemasIn 0 schemas (now (slots .entry))) (now (section .entry)) (beforeIn (now (slots .entry)) child) at ⌝ }
@@ -166,7 +161,7 @@ pub(crate) fn head_at<'a>(
         };
     }
     if token == CHILD {
-        return child_head(slots, numbers, schemas, section, at);
+        return child_head(slots, schemas, section, at, last);
     }
     if token == CHANGE {
         return change_head(slots, schemas, section, at, child);

@@ -2,28 +2,24 @@
 ghost use mathlib.Core.Path.{_≡_};
 ghost use Prim.Native.Nat.{_≤_};
 ghost use lib.ListN.{length};
-ghost use Rattle.wire.specs.Read.{ok};
-ghost use Rattle.wire.specs.Integers.{toldInt};
 ghost use Rattle.tree.specs.Table.{schemasIn};
-ghost use Rattle.section.specs.Shapes.{Sound, Held, slotColumns};
-ghost use Rattle.section.specs.Ways.{dataEnd};
+ghost use Rattle.shapes.specs.Shapes.{Sound};
 ghost use Rattle.section.specs.Table.{rowsFitting, rowsRead, Listed};
 ghost use Rattle.section.specs.Sizes.{RoomForSizes};
 ghost use Rattle.section.specs.Scan.{Ready, Scanned};
 ghost use Rattle.section.specs.declared.read.RowsRead.the-variants as read;
-use crate::children::guesses;
-use crate::ends::patient_end;
+use crate::ends::count_of;
+use crate::ends::quick_end;
+use crate::ends::turn;
+use crate::ends::turns_done;
 use crate::heads::Head;
 use crate::heads::head_at;
 use crate::notes::note;
-use crate::shapes::add_schemas;
-use crate::steps::pass;
 use crate::table::fill;
 use crate::table::put_row;
-use crate::ways::FAR;
-use crate::ways::way_over;
 use schema::reader::PlaceRead;
 use schema::reader::read_table;
+use shapes::shapes::keep_schemas;
 use wire::LIMIT;
 use wire::bytes::copy_numbers;
 use wire::error::Error;
@@ -40,47 +36,27 @@ pub enum RowsRead {
     Refused(Error),
 }
 
-// Where the data at `start` end, for which `end` was found: there, where the section reaches so far; else the columns say where, or why not.
-fn end_of(
-    slots: &[u64; 512],
-    number: usize,
-    update: bool,
-    section: &[u8],
-    start: usize,
-    end: usize,
-) -> IntRead
-    requires { ⌜ Held (now slots) number × (end ≤ length (now section) → dataEnd update (slotColumns (now slots) number) (now section) start ≡ ok end) ⌝ }
-    ensures { λ r. ⌜ toldInt r ≡ dataEnd update (slotColumns (now (slots .entry)) number) (now (section .entry)) start ⌝ }
-{
-    if end <= section.len() {
-        return IntRead::Int(end);
-    }
-    patient_end(slots, number, update, section, start)
-}
-
 // One pass over a section: how many rows it has, or the first error. Rows that the table has room for are written into it, and the sizes of
 // the elements are noted, where there is room for all.
-fn scan<'a>(
-    slots: &'a [u64; 512],
-    words: &'a [usize; 512],
-    forms: &'a [usize; 256],
-    masks: &'a [u64; 1024],
-    numbers: &'a [u8; 256],
+fn scan(
+    slots: &[u64; 512],
+    shapes: &[usize],
     schemas: usize,
     section: &[u8],
     table: &mut [u32],
     sizes: &mut [u8],
 ) -> RowsRead
-    requires { ⌜ Ready (now slots) (now words) (now forms) (now masks) schemas (now section) × RoomForSizes (now sizes) ⌝ }
+    requires { ⌜ Ready (now slots) (now shapes) schemas (now section) × RoomForSizes (now sizes) ⌝ }
     ensures { λ r. ⌜ Scanned (schemasIn 0 schemas (now (slots .entry))) (now (section .entry)) (now (table .entry)) (now (table .exit)) (now (sizes .exit)) r × (length (now (sizes .exit)) ≡ length (now (sizes .entry))) ⌝ }
 {
     let mut at = 0;
     let mut rows = 0;
     let mut child = 0;
+    let mut last = 0;
     let mut origin = 0;
     let mut used = 0;
     let answer = 'section: loop {
-        match head_at(slots, numbers, schemas, section, at, child) {
+        match head_at(slots, schemas, section, at, child, last) {
             Head::Refused(e) => {
                 break 'section RowsRead::Refused(e);
             }
@@ -100,49 +76,31 @@ fn scan<'a>(
                 start,
             } => {
                 let update = kind == 3;
-                let way = way_over(
-                    slots,
-                    words,
-                    forms,
-                    masks,
-                    schemas,
-                    number,
-                    update,
-                    section,
-                    start,
-                );
-                let first = way.first;
-                let count = way.count;
-                let bits = way.bits;
-                let mut p = way.fields;
-                let mut j = 0;
-                while j < count {
-                    let q = pass(words[first + j], bits, section, p);
-                    if q == 0 {
-                        p = FAR;
-                        j = count;
-                    } else {
-                        p = q;
-                        j += 1;
-                    }
-                }
-                match end_of(slots, number, update, section, start, p + way.tail) {
-                    IntRead::Refused(e) => {
-                        break 'section RowsRead::Refused(e);
-                    }
-                    IntRead::Int(end) => {
-                        used = note(sizes, used, end - at);
-                        at = end;
-                        if update {
-                            put_row(table, rows - 1, 3, id, origin, start);
-                            child = 0;
-                        } else {
-                            put_row(table, rows, kind, id, start, 0);
-                            rows += 1;
-                            child = number;
-                            origin = start;
+                let count = count_of(slots, number);
+                let mut end = quick_end(shapes, number, update, section, start);
+                let mut i = turns_done(end, count);
+                while i <= count {
+                    match turn(slots, number, update, section, start, i, end) {
+                        IntRead::Refused(e) => {
+                            break 'section RowsRead::Refused(e);
+                        }
+                        IntRead::Int(p) => {
+                            end = p;
+                            i += 1;
                         }
                     }
+                }
+                used = note(sizes, used, end - at);
+                at = end;
+                if update {
+                    put_row(table, rows - 1, 3, id, origin, start);
+                    child = 0;
+                } else {
+                    put_row(table, rows, kind, id, start, 0);
+                    rows += 1;
+                    child = number;
+                    last = number;
+                    origin = start;
                 }
             }
         }
@@ -162,34 +120,21 @@ fn refuse(e: Error, name: Input) -> RowsRead
     })
 }
 
-// Reads a section by words, forms and masks of its schemas. The first pass counts the rows, holds the first 256 of them and notes sizes.
+// Reads a section by the shapes of its schemas. The first pass counts the rows, holds the first 256 of them and notes sizes.
 // Where the table has room for all rows, those that were held are copied; more are filled in by the sizes, or else by a second pass.
-fn read_noting<'a>(
-    slots: &'a [u64; 512],
-    words: &'a [usize; 512],
-    forms: &'a [usize; 256],
-    masks: &'a [u64; 1024],
-    numbers: &'a [u8; 256],
+fn read_noting(
+    slots: &[u64; 512],
+    shapes: &[usize],
     schemas: usize,
     section: &[u8],
     table: &mut [u32],
     sizes: &mut [u8],
 ) -> RowsRead
-    requires { ⌜ Ready (now slots) (now words) (now forms) (now masks) schemas (now section) × RoomForSizes (now sizes) ⌝ }
+    requires { ⌜ Ready (now slots) (now shapes) schemas (now section) × RoomForSizes (now sizes) ⌝ }
     ensures { λ r. ⌜ Listed (rowsFitting (schemasIn 0 schemas (now (slots .entry))) (now (section .entry)) (length (now (table .entry)))) (now (table .entry)) (now (table .exit)) r ⌝ }
 {
     let mut held = [0u32; 1_024];
-    match scan(
-        slots,
-        words,
-        forms,
-        masks,
-        numbers,
-        schemas,
-        section,
-        &mut held,
-        sizes,
-    ) {
+    match scan(slots, shapes, schemas, section, &mut held, sizes) {
         RowsRead::Refused(e) => refuse(e, Input::Section),
         RowsRead::Rows(n) => {
             if table.len() / 4 < n {
@@ -207,61 +152,28 @@ fn read_noting<'a>(
                 fill(section, &sizes[..], table);
                 return RowsRead::Rows(n);
             }
-            scan(
-                slots,
-                words,
-                forms,
-                masks,
-                numbers,
-                schemas,
-                section,
-                table,
-                sizes,
-            )
+            scan(slots, shapes, schemas, section, table, sizes)
         }
     }
 }
 
-// Reads a section by words, forms and masks of its schemas, with room for sizes. Those of a short section need not be noted.
-fn read_sized<'a>(
-    slots: &'a [u64; 512],
-    words: &'a [usize; 512],
-    forms: &'a [usize; 256],
-    masks: &'a [u64; 1024],
-    numbers: &'a [u8; 256],
+// Reads a section by the shapes of its schemas, with room for sizes. Those of a short section need not be noted.
+fn read_sized(
+    slots: &[u64; 512],
+    shapes: &[usize],
     schemas: usize,
     section: &[u8],
     table: &mut [u32],
 ) -> RowsRead
-    requires { ⌜ Ready (now slots) (now words) (now forms) (now masks) schemas (now section) ⌝ }
+    requires { ⌜ Ready (now slots) (now shapes) schemas (now section) ⌝ }
     ensures { λ r. ⌜ Listed (rowsFitting (schemasIn 0 schemas (now (slots .entry))) (now (section .entry)) (length (now (table .entry)))) (now (table .entry)) (now (table .exit)) r ⌝ }
 {
     if section.len() <= SHORT {
         let mut sizes = [0u8; 4];
-        return read_noting(
-            slots,
-            words,
-            forms,
-            masks,
-            numbers,
-            schemas,
-            section,
-            table,
-            &mut sizes,
-        );
+        return read_noting(slots, shapes, schemas, section, table, &mut sizes);
     }
     let mut sizes = [0u8; 262_144];
-    read_noting(
-        slots,
-        words,
-        forms,
-        masks,
-        numbers,
-        schemas,
-        section,
-        table,
-        &mut sizes,
-    )
+    read_noting(slots, shapes, schemas, section, table, &mut sizes)
 }
 
 // Reads a section by the schemas in a table of slots.
@@ -269,21 +181,9 @@ fn read_rows(slots: &[u64; 512], schemas: usize, section: &[u8], table: &mut [u3
     requires { ⌜ Sound (now slots) schemas × (length (now section) ≤ 16777216) ⌝ }
     ensures { λ r. ⌜ Listed (rowsFitting (schemasIn 0 schemas (now (slots .entry))) (now (section .entry)) (length (now (table .entry)))) (now (table .entry)) (now (table .exit)) r ⌝ }
 {
-    let mut words = [0usize; 512];
-    let mut forms = [0usize; 256];
-    let mut masks = [0u64; 1_024];
-    add_schemas(slots, schemas, &mut words, &mut forms, &mut masks);
-    let numbers = guesses(slots, schemas);
-    read_sized(
-        slots,
-        &words,
-        &forms,
-        &masks,
-        &numbers,
-        schemas,
-        section,
-        table,
-    )
+    let mut shapes = [0usize; 2_560];
+    keep_schemas(slots, schemas, &mut shapes);
+    read_sized(slots, &shapes, schemas, section, table)
 }
 
 // Reads a whole section into a table of rows, four numbers a row; an error leaves the table as it was.

@@ -5,6 +5,7 @@ ghost use Rattle.column.specs.Layout.{columnIn};
 use column::column::Column;
 
 pub mod current;
+pub mod data;
 pub mod updates;
 
 // Column `i` of a schema's arrays.

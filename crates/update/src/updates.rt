@@ -66,7 +66,7 @@ pub fn breaks_force(column: Column, i: usize, update: &[u8], force: &[u8]) -> bo
 }
 
 // Whether update data hold a field of column `i`.
-fn is_carried(column: Column, i: usize, update: &[u8], force: &[u8]) -> bool
+pub(crate) fn is_carried(column: Column, i: usize, update: &[u8], force: &[u8]) -> bool
     ensures { λ r. ⌜ r ≡ carried (now (update .entry)) (now (force .entry)) (mark column i) ⌝ }
 {
     if is_set(update, i) {
@@ -134,7 +134,7 @@ fn check_force<'a>(
 }
 
 // Opens the update data at `at`: their maps are whole and keep all rules. Where their fields start.
-fn open_update<'a>(
+pub(crate) fn open_update<'a>(
     codes: &'a [u8; 64],
     flags: &'a [u8; 64],
     maxima: &'a [u16; 64],

@@ -9,6 +9,7 @@ pub mod UpdateFound
 pub mod UpdateLater
 pub mod CurrentValues
 pub mod Leap
+pub mod Data
 pub mod Parts
 pub mod Shift
 pub mod Reserved

@@ -3,5 +3,6 @@ pub mod Rows
 pub mod Updates
 pub mod Parts
 pub mod Leaps
+pub mod Data
 -- Inner.
 pub mod Examples

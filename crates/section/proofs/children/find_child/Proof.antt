@@ -1,4 +1,4 @@
--- A guess that has the id is the schema with it; else the loop goes on with the schemas that are left.
+-- The last child, where it has the id; else the loop goes on with the schemas that are left.
 -- Assumes nothing.
 use Prim.Native.Nat.{ℕ, _≤_, _-_}
 use mathlib.Core.Path.{_≡_, sym, ap, _∙_}
@@ -10,23 +10,20 @@ use Rattle.section.proofs.children.find_child.Statement.{statement}
 use Rattle.section.proofs.children.find_child.Tie as tie
 
 abbrev Inv-loop : tie.InvT-loop
-Inv-loop slots numbers schemas id guess k₀ k = (1 ≤ k) × (childNumber (schemasIn 0 schemas slots) id ≡ numberFrom k (schemasIn k (schemas - k) slots) id)
+Inv-loop slots schemas last id k₀ k = (1 ≤ k) × (childNumber (schemasIn 0 schemas slots) id ≡ numberFrom k (schemasIn k (schemas - k) slots) id)
 
 abbrev μ-loop : tie.MeasureT-loop
-μ-loop slots numbers schemas id guess k₀ k = schemas - k
+μ-loop slots schemas last id k₀ k = schemas - k
 
 returns : tie.Need-returns Inv-loop μ-loop
 returns c =
-    let args = c .before .before .before .before .before .before .before .args in
-    let pre = c .before .before .before .before .before .before .before .pre in
-    let wide = c .before .before .before .before .before .wide in
+    let args = c .before .before .before .before .before .args in
+    let pre = c .before .before .before .before .before .pre in
     let if2 = c .before .before .before .if2 in
-    sym (ap (λ (n : ℕ). or0 (childNumber (schemasIn 0 (args .schemas) (args .slots .now)) n)) (sym (sym (c .before .id-in .ensures) ∙ c .if3 .taken)) ∙ ap or0 (pre .once (wide .result) (search needs) (if2 .taken)))
+    sym (ap (λ (n : ℕ). or0 (childNumber (schemasIn 0 (args .schemas) (args .slots .now)) n)) (sym (sym (c .before .id-in .ensures) ∙ c .if3 .taken)) ∙ ap or0 (pre .once (args .last) (search needs) (if2 .taken)))
 
 loop-holds : tie.Need-loop-holds Inv-loop μ-loop
-loop-holds c =
-    let pre = c .before .before .before .pre in
-    (search needs, child-all _ _ _ (pre .top))
+loop-holds c = (search needs, child-all _ _ _ (c .before .pre .top))
 
 returns-2 : tie.Need-returns-2 Inv-loop μ-loop
 returns-2 c =
@@ -51,8 +48,6 @@ find-child-spec =
     (tie.spec
     Inv-loop
     μ-loop
-    (λ c. search needs)
-    (λ c κs. search needs)
     (λ c. search needs)
     (λ c. search needs)
     (λ c. search needs)

@@ -1,4 +1,4 @@
--- An element keeps what holds before it; words lead over its data.
+-- An element keeps what holds before it; the turns go over its data.
 -- Assumes nothing.
 use Prim.Native.Nat.{_+_, _-_}
 use mathlib.Core.Path.{_≡_, refl, sym, ap, _∙_}
@@ -7,46 +7,49 @@ use lib.ListN.{length}
 use lib.Dec.{eqb}
 use Rattle.wire.specs.Read.{ok}
 use Rattle.wire.specs.Integers.{toldInt}
+use Rattle.walk.specs.Data.{dataEnd}
+use Rattle.shapes.specs.Shapes.{Held, slotColumns}
+use Rattle.shapes.proofs.Slots.{sound-held}
 use Rattle.section.specs.Heads.{toldHead}
-use Rattle.section.specs.Shapes.{slotColumns}
-use Rattle.section.specs.Ways.{dataEnd}
-use Rattle.section.proofs.Slots.{sound-held}
 use Rattle.section.proofs.Scan.{Ahead}
 use Rattle.section.proofs.Scanning.{AtScan, scan-start, scan-refused, ScanDeleted, scan-deleted, scan-ahead, ahead-number, row-fits, change-fits, scan-data-refused, data-end, change-some, scan-row-ended, scan-change-ended, scan-long, scanned-rows, scanned-refused}
-use Rattle.section.proofs.EndByWords.{AtWord, word-start, word-few, word-inside, word-next, word-far, word-end}
+use Rattle.section.proofs.Turns.{AtTurn, turn-start, turn-most, turn-next, turn-refused, turn-end}
 use borrow.Author.Needs.{needs}
 use Rattle.section.proofs.read.scan.Statement.{statement}
 use Rattle.section.proofs.read.scan.Tie as tie
 
 abbrev Inv-loop : tie.InvT-loop
-Inv-loop slots words forms masks numbers schemas section table sizes at rows child origin used kind number id start update way first count bits p₀ j₀ p j = AtWord update (slotColumns slots number) section start (way .tail) count p j
+Inv-loop slots shapes schemas section table sizes at rows child last origin used kind number id start update count end₀ i₀ end i = AtTurn update (slotColumns slots number) section start end i
 
 abbrev μ-loop : tie.MeasureT-loop
-μ-loop slots words forms masks numbers schemas section table sizes at rows child origin used kind number id start update way first count bits p₀ j₀ p j = count - j
+μ-loop slots shapes schemas section table sizes at rows child last origin used kind number id start update count end₀ i₀ end i = count + 1 - i
 
 abbrev Inv-section : tie.InvT-section
-Inv-section slots words forms masks numbers schemas section table₀ sizes₀ at₀ rows₀ child₀ origin₀ used₀ table sizes at rows child origin used = AtScan slots schemas section table₀ table sizes₀ sizes at rows child origin used
+Inv-section slots shapes schemas section table₀ sizes₀ at₀ rows₀ child₀ last₀ origin₀ used₀ table sizes at rows child last origin used = AtScan slots schemas section table₀ table sizes₀ sizes at rows child origin used
 
 abbrev μ-section : tie.MeasureT-section
-μ-section slots words forms masks numbers schemas section table₀ sizes₀ at₀ rows₀ child₀ origin₀ used₀ table sizes at rows child origin used = length section - at
+μ-section slots shapes schemas section table₀ sizes₀ at₀ rows₀ child₀ last₀ origin₀ used₀ table sizes at rows child last origin used = length section - at
 
 by-delete : (i : tie.After-id Inv-loop μ-loop Inv-section μ-section) → ScanDeleted _ _ _ _ _ _ _ _ _ _ _ _ ((i .before .before .before .section) .inv) ((i .id) .given .0 .0)
-by-delete i = scan-deleted _ _ _ _ _ _ _ _ _ _ _ _ ((i .before .before .before .section) .inv) ((i .id) .given .0 .0) (λ x. (i .before .before .before .before .before .before .shared-slice-known) .given x .fits) (sym ((i .before .before .head-at) .ensures) ∙ ap toldHead ((i .id) .given .1))
+by-delete i = scan-deleted _ _ _ _ _ _ _ _ _ _ _ _ ((i .before .before .before .section) .inv) ((i .id) .given .0 .0) (λ x. (i .before .before .before .before .before .before .shared-slice-known2) .given x .fits) (sym ((i .before .before .head-at) .ensures) ∙ ap toldHead ((i .id) .given .1))
 
 by-head : (k : tie.After-kind Inv-loop μ-loop Inv-section μ-section) → Ahead _ _ _ _ _ _ _ ((k .before .before .before .section) .inv .element) ((k .kind) .given .0 .0) ((k .kind) .given .0 .1 .0) ((k .kind) .given .0 .1 .1 .0) ((k .kind) .given .0 .1 .1 .1 .0)
-by-head k = scan-ahead _ _ _ _ _ _ _ _ _ _ _ _ ((k .before .before .before .section) .inv) ((k .kind) .given .0 .0) ((k .kind) .given .0 .1 .0) ((k .kind) .given .0 .1 .1 .0) ((k .kind) .given .0 .1 .1 .1 .0) ((k .before .before .before .before .before .before .before .pre) .0 .sound .top) (λ x. (k .before .before .before .before .before .before .shared-slice-known) .given x .fits) (sym ((k .before .before .head-at) .ensures) ∙ ap toldHead ((k .kind) .given .1))
+by-head k = scan-ahead _ _ _ _ _ _ _ _ _ _ _ _ ((k .before .before .before .section) .inv) ((k .kind) .given .0 .0) ((k .kind) .given .0 .1 .0) ((k .kind) .given .0 .1 .1 .0) ((k .kind) .given .0 .1 .1 .1 .0) ((k .before .before .before .before .before .before .before .before .pre) .0 .sound .top) (λ x. (k .before .before .before .before .before .before .shared-slice-known2) .given x .fits) (sym ((k .before .before .head-at) .ensures) ∙ ap toldHead ((k .kind) .given .1))
 
-by-end : (e : tie.After-end Inv-loop μ-loop Inv-section μ-section) → dataEnd (eqb ((e .before .before .before .before .before .before .before .before .kind) .given .0 .0) 3) (slotColumns ((e .before .before .before .before .before .before .before .before .before .before .before .before .before .before .before .args) .slots .now) ((e .before .before .before .before .before .before .before .before .kind) .given .0 .1 .0)) ((e .before .before .before .before .before .before .before .before .before .before .before .before .before .before .before .args) .section .now) ((e .before .before .before .before .before .before .before .before .kind) .given .0 .1 .1 .1 .0) ≡ ok ((e .end) .given .0 .0)
-by-end e = sym ((e .before .before .end-of) .ensures) ∙ ap toldInt ((e .end) .given .1)
+by-number : (k : tie.After-kind Inv-loop μ-loop Inv-section μ-section) → Held ((k .before .before .before .before .before .before .before .before .args) .slots .now) ((k .kind) .given .0 .1 .0)
+by-number k = sound-held ((k .before .before .before .before .before .before .before .before .pre) .0 .sound) (ahead-number _ _ _ _ _ _ _ _ _ _ _ _ ((k .before .before .before .section) .inv) (by-head k))
+
+by-turns : (l : tie.After-loop Inv-loop μ-loop Inv-section μ-section) → dataEnd (eqb ((l .before .before .before .before .before .before .kind) .given .0 .0) 3) (slotColumns ((l .before .before .before .before .before .before .before .before .before .before .before .before .before .before .args) .slots .now) ((l .before .before .before .before .before .before .kind) .given .0 .1 .0)) ((l .before .before .before .before .before .before .before .before .before .before .before .before .before .before .args) .section .now) ((l .before .before .before .before .before .before .kind) .given .0 .1 .1 .1 .0) ≡ ok ((l .before .loop) .end)
+by-turns l = turn-end (eqb ((l .before .before .before .before .before .before .kind) .given .0 .0) 3) (slotColumns ((l .before .before .before .before .before .before .before .before .before .before .before .before .before .before .args) .slots .now) ((l .before .before .before .before .before .before .kind) .given .0 .1 .0)) ((l .before .before .before .before .before .before .before .before .before .before .before .before .before .before .args) .section .now) ((l .before .before .before .before .before .before .kind) .given .0 .1 .1 .1 .0) ((l .before .loop) .inv) (omega (arith, (l .loop-test) .left, (l .before .before .before .before .count-of) .ensures .0))
 
 section-holds : tie.Need-section-holds Inv-loop μ-loop Inv-section μ-section
 section-holds c =
-    let pre = c .before .before .before .pre in
+    let pre = c .before .before .before .before .pre in
     scan-start _ _ _ _ _ (pre .0 .sound .top) (pre .0 .sized) (pre .1)
 
 head-at-requires : tie.Need-head-at-requires Inv-loop μ-loop Inv-section μ-section
 head-at-requires c κs =
-    let pre = c .before .before .before .before .pre in
+    let pre = c .before .before .before .before .before .pre in
     (pre .0 .sound, c .section .inv .nested, pre .0 .sized)
 
 sub-put-row : tie.Need-sub-put-row Inv-loop μ-loop Inv-section μ-section
@@ -62,7 +65,7 @@ note-requires c κs =
 
 add-at : tie.Need-add-at Inv-loop μ-loop Inv-section μ-section
 add-at c =
-    let pre = c .before .before .before .before .before .before .before .before .before .before .before .before .before .before .before .before .pre in
+    let pre = c .before .before .before .before .before .before .before .before .before .before .before .before .before .before .before .before .before .pre in
     omega (arith, by-delete (c .before .before .before .before .before .before .before .before .before) .within, pre .0 .sized)
 
 section-less : tie.Need-section-less Inv-loop μ-loop Inv-section μ-section
@@ -74,137 +77,102 @@ section-again c =
     let note = c .before .before .note in
     rw (put-row .ensures) (by-delete (c .before .before .before .before .before .before .before .before .before) .next _ _ (note .ensures .0) (note .ensures .1))
 
-way-over-requires : tie.Need-way-over-requires Inv-loop μ-loop Inv-section μ-section
-way-over-requires c κs =
-    let pre = c .before .before .before .before .before .before .before .before .pre in
-    let section = c .before .before .before .before .section in
-    (pre .0 .sound, pre .0 .shaped, ahead-number _ _ _ _ _ _ _ _ _ _ _ _ (section .inv) (by-head (c .before)), pre .0 .masked, by-head (c .before) .within, pre .0 .sized)
+count-of-requires : tie.Need-count-of-requires Inv-loop μ-loop Inv-section μ-section
+count-of-requires c κs = by-number (c .before)
+
+turns-done-requires : tie.Need-turns-done-requires Inv-loop μ-loop Inv-section μ-section
+turns-done-requires c κs = omega (arith, c .before .count-of .ensures .1)
 
 loop-holds : tie.Need-loop-holds Inv-loop μ-loop Inv-section μ-section
 loop-holds c =
-    let pre = c .before .before .before .before .before .before .before .before .before .pre in
-    word-start _ _ _ _ _ _ (pre .0 .sized) (c .way-over .ensures)
-
-add-pass : tie.Need-add-pass Inv-loop μ-loop Inv-section μ-section
-add-pass c =
-    let pre = c .before .before .before .before .before .before .before .before .before .before .before .pre in
-    let way-over = c .before .before .way-over in
-    let loop = c .before .loop in
-    omega (arith, word-inside _ _ _ _ _ _ (pre .0 .sized) (way-over .ensures) _ _ (loop .inv) (c .loop-test .taken))
-
-mul-pass : tie.Need-mul-pass Inv-loop μ-loop Inv-section μ-section
-mul-pass c =
-    let pre = c .before .before .before .before .before .before .before .before .before .before .before .pre in
-    let way-over = c .before .before .way-over in
-    let loop = c .before .loop in
-    omega (arith, word-inside _ _ _ _ _ _ (pre .0 .sized) (way-over .ensures) _ _ (loop .inv) (c .loop-test .taken))
-
-element-copy-out-pass : tie.Need-element-copy-out-pass Inv-loop μ-loop Inv-section μ-section
-element-copy-out-pass c =
-    let pre = c .before .before .before .before .before .before .before .before .before .before .before .pre in
-    let way-over = c .before .before .way-over in
-    let loop = c .before .loop in
-    word-inside _ _ _ _ _ _ (pre .0 .sized) (way-over .ensures) _ _ (loop .inv) (c .loop-test .taken)
-
-pass-requires : tie.Need-pass-requires Inv-loop μ-loop Inv-section μ-section
-pass-requires c κs =
+    let args = c .before .before .before .before .before .before .before .before .before .before .before .before .args in
     let pre = c .before .before .before .before .before .before .before .before .before .before .before .before .pre in
-    let way-over = c .before .before .before .way-over in
-    let loop = c .before .before .loop in
-    omega (arith, loop .inv .near, c .before .loop-test .taken, word-few _ _ _ _ _ _ (pre .0 .sized) (way-over .ensures) .0)
+    let section = c .before .before .before .before .before .before .before .section in
+    let kind = c .before .before .before .before .kind in
+    let count-of = c .before .before .count-of in
+    turn-start (eqb (kind .given .0 .0) 3) (slotColumns (args .slots .now) (kind .given .0 .1 .0)) (args .section .now) (kind .given .0 .1 .1 .1 .0) (c .before .quick-end .ensures _ (pre .0 .shaped _ (ahead-number _ _ _ _ _ _ _ _ _ _ _ _ (section .inv) (by-head (c .before .before .before .before))))) (count-of .ensures .0) (c .turns-done .ensures)
+
+turn-requires : tie.Need-turn-requires Inv-loop μ-loop Inv-section μ-section
+turn-requires c κs =
+    let count-of = c .before .before .before .before .count-of in
+    (by-number (c .before .before .before .before .before .before), omega (arith, c .loop-test .taken, count-of .ensures .0))
+
+add-i : tie.Need-add-i Inv-loop μ-loop Inv-section μ-section
+add-i c =
+    let count-of = c .before .before .before .before .before .before .before .before .count-of in
+    let loop-test = c .before .before .before .before .loop-test in
+    omega (arith, loop-test .taken, count-of .ensures .1)
 
 loop-less : tie.Need-loop-less Inv-loop μ-loop Inv-section μ-section
 loop-less c =
-    let loop-test = c .before .before .before .loop-test in
+    let loop-test = c .before .before .before .before .loop-test in
     omega (arith, loop-test .taken)
 
 loop-again : tie.Need-loop-again Inv-loop μ-loop Inv-section μ-section
 loop-again c =
-    let pre = c .before .before .before .before .before .before .before .before .before .before .before .before .before .before .pre in
-    let way-over = c .before .before .before .before .before .way-over in
-    let loop = c .before .before .before .before .loop in
-    let loop-test = c .before .before .before .loop-test in
-    word-far _ _ _ _ _ _ (pre .0 .sized) (way-over .ensures) _ _ (loop .inv) (loop-test .taken) _ (omega (arith, pre .0 .sized)) (omega arith)
-
-loop-again-2 : tie.Need-loop-again-2 Inv-loop μ-loop Inv-section μ-section
-loop-again-2 c =
-    let pre = c .before .before .before .before .before .before .before .before .before .before .before .before .before .before .pre in
-    let way-over = c .before .before .before .before .before .way-over in
-    let loop = c .before .before .before .before .loop in
-    let loop-test = c .before .before .before .loop-test in
-    let pass = c .before .pass in
-    word-next _ _ _ _ _ _ (pre .0 .sized) (way-over .ensures) _ _ (loop .inv) (loop-test .taken) _ (pass .ensures .0) (c .if1 .left) (pass .ensures .1)
-
-add-end-of : tie.Need-add-end-of Inv-loop μ-loop Inv-section μ-section
-add-end-of c =
-    let pre = c .before .before .before .before .before .before .before .before .before .before .before .before .pre in
-    let way-over = c .before .before .before .way-over in
-    let loop = c .before .before .loop in
-    omega (arith, loop .inv .near, loop .inv .most, word-few _ _ _ _ _ _ (pre .0 .sized) (way-over .ensures))
-
-end-of-requires : tie.Need-end-of-requires Inv-loop μ-loop Inv-section μ-section
-end-of-requires c κs =
-    let pre = c .before .before .before .before .before .before .before .before .before .before .before .before .pre in
-    let section = c .before .before .before .before .before .before .before .before .section in
-    let way-over = c .before .before .before .way-over in
-    let loop = c .before .before .loop in
-    (sound-held (pre .0 .sound) (ahead-number _ _ _ _ _ _ _ _ _ _ _ _ (section .inv) (by-head (c .before .before .before .before .before))), word-end _ _ _ _ _ _ (pre .0 .sized) (way-over .ensures) _ _ (loop .inv) (c .before .loop-test .left))
+    let args = c .before .before .before .before .before .before .before .before .before .before .before .before .before .before .before .before .before .before .args in
+    let kind = c .before .before .before .before .before .before .before .before .before .before .kind in
+    let count-of = c .before .before .before .before .before .before .before .before .count-of in
+    let loop = c .before .before .before .before .before .loop in
+    let loop-test = c .before .before .before .before .loop-test in
+    let turn = c .before .before .before .turn in
+    turn-next (eqb (kind .given .0 .0) 3) (slotColumns (args .slots .now) (kind .given .0 .1 .0)) (args .section .now) (kind .given .0 .1 .1 .1 .0) (loop .inv) (omega (arith, loop-test .taken, count-of .ensures .0)) (sym (turn .ensures) ∙ ap toldInt (c .before .p .given .1))
 
 sub-note : tie.Need-sub-note Inv-loop μ-loop Inv-section μ-section
 sub-note c =
-    let section = c .before .before .before .before .before .before .before .before .before .before .before .before .before .section in
-    omega (arith, data-end _ _ _ _ _ _ _ _ _ _ _ _ (section .inv) (by-head (c .before .before .before .before .before .before .before .before .before .before)) _ (by-end (c .before .before)))
+    let section = c .before .before .before .before .before .before .before .before .before .before .section in
+    omega (arith, data-end _ _ _ _ _ _ _ _ _ _ _ _ (section .inv) (by-head (c .before .before .before .before .before .before .before)) _ (by-turns (c .before)))
 
 note-requires-2 : tie.Need-note-requires-2 Inv-loop μ-loop Inv-section μ-section
 note-requires-2 c κs =
-    let section = c .before .before .before .before .before .before .before .before .before .before .before .before .before .section in
-    (section .inv .room .0, section .inv .room .1, omega (arith, data-end _ _ _ _ _ _ _ _ _ _ _ _ (section .inv) (by-head (c .before .before .before .before .before .before .before .before .before .before)) _ (by-end (c .before .before))))
+    let section = c .before .before .before .before .before .before .before .before .before .before .section in
+    (section .inv .room .0, section .inv .room .1, omega (arith, data-end _ _ _ _ _ _ _ _ _ _ _ _ (section .inv) (by-head (c .before .before .before .before .before .before .before)) _ (by-turns (c .before))))
 
 sub-put-row-2 : tie.Need-sub-put-row-2 Inv-loop μ-loop Inv-section μ-section
 sub-put-row-2 c =
-    let section = c .before .before .before .before .before .before .before .before .before .before .before .before .before .before .before .before .before .before .section in
-    change-some _ _ _ _ _ _ _ _ _ _ _ _ (section .inv) (by-head (c .before .before .before .before .before .before .before .before .before .before .before .before .before .before .before)) _ (by-end (c .before .before .before .before .before .before .before)) (c .before .if2 .taken)
+    let section = c .before .before .before .before .before .before .before .before .before .before .before .before .before .before .before .section in
+    change-some _ _ _ _ _ _ _ _ _ _ _ _ (section .inv) (by-head (c .before .before .before .before .before .before .before .before .before .before .before .before)) _ (by-turns (c .before .before .before .before .before .before)) (c .before .if1 .taken)
 
 put-row-requires-2 : tie.Need-put-row-requires-2 Inv-loop μ-loop Inv-section μ-section
 put-row-requires-2 c κs =
-    let section = c .before .before .before .before .before .before .before .before .before .before .before .before .before .before .before .before .before .before .section in
-    change-fits _ _ _ _ _ _ _ _ _ _ _ _ (section .inv) (by-head (c .before .before .before .before .before .before .before .before .before .before .before .before .before .before .before))
+    let section = c .before .before .before .before .before .before .before .before .before .before .before .before .before .before .before .section in
+    change-fits _ _ _ _ _ _ _ _ _ _ _ _ (section .inv) (by-head (c .before .before .before .before .before .before .before .before .before .before .before .before))
 
 section-less-2 : tie.Need-section-less-2 Inv-loop μ-loop Inv-section μ-section
 section-less-2 c =
-    let section = c .before .before .before .before .before .before .before .before .before .before .before .before .before .before .before .before .before .before .before .before .before .section in
-    omega (arith, data-end _ _ _ _ _ _ _ _ _ _ _ _ (section .inv) (by-head (c .before .before .before .before .before .before .before .before .before .before .before .before .before .before .before .before .before .before)) _ (by-end (c .before .before .before .before .before .before .before .before .before .before)))
+    let section = c .before .before .before .before .before .before .before .before .before .before .before .before .before .before .before .before .before .before .section in
+    omega (arith, data-end _ _ _ _ _ _ _ _ _ _ _ _ (section .inv) (by-head (c .before .before .before .before .before .before .before .before .before .before .before .before .before .before .before)) _ (by-turns (c .before .before .before .before .before .before .before .before .before)))
 
 section-again-2 : tie.Need-section-again-2 Inv-loop μ-loop Inv-section μ-section
 section-again-2 c =
-    let section = c .before .before .before .before .before .before .before .before .before .before .before .before .before .before .before .before .before .before .before .before .before .section in
+    let section = c .before .before .before .before .before .before .before .before .before .before .before .before .before .before .before .before .before .before .section in
     let note2 = c .before .before .before .before .before .before .before .note2 in
-    let if2 = c .before .before .before .before .if2 in
+    let if1 = c .before .before .before .before .if1 in
     let put-row2 = c .before .before .put-row2 in
-    rw (put-row2 .ensures) (scan-change-ended _ _ _ _ _ _ _ _ _ _ _ _ (section .inv) (by-head (c .before .before .before .before .before .before .before .before .before .before .before .before .before .before .before .before .before .before)) _ (by-end (c .before .before .before .before .before .before .before .before .before .before)) _ _ (note2 .ensures .0) (note2 .ensures .1) (if2 .taken))
+    rw (put-row2 .ensures) (scan-change-ended _ _ _ _ _ _ _ _ _ _ _ _ (section .inv) (by-head (c .before .before .before .before .before .before .before .before .before .before .before .before .before .before .before)) _ (by-turns (c .before .before .before .before .before .before .before .before .before)) _ _ (note2 .ensures .0) (note2 .ensures .1) (if1 .taken))
 
 put-row-requires-3 : tie.Need-put-row-requires-3 Inv-loop μ-loop Inv-section μ-section
 put-row-requires-3 c κs =
-    let section = c .before .before .before .before .before .before .before .before .before .before .before .before .before .before .before .before .before .before .section in
-    row-fits _ _ _ _ _ _ _ _ _ _ _ _ (section .inv) (by-head (c .before .before .before .before .before .before .before .before .before .before .before .before .before .before .before))
+    let section = c .before .before .before .before .before .before .before .before .before .before .before .before .before .before .before .section in
+    row-fits _ _ _ _ _ _ _ _ _ _ _ _ (section .inv) (by-head (c .before .before .before .before .before .before .before .before .before .before .before .before))
 
 add-rows : tie.Need-add-rows Inv-loop μ-loop Inv-section μ-section
 add-rows c =
-    let section = c .before .before .before .before .before .before .before .before .before .before .before .before .before .before .before .before .before .before .before .before .before .section in
-    omega (arith, row-fits _ _ _ _ _ _ _ _ _ _ _ _ (section .inv) (by-head (c .before .before .before .before .before .before .before .before .before .before .before .before .before .before .before .before .before .before)) .0)
+    let section = c .before .before .before .before .before .before .before .before .before .before .before .before .before .before .before .before .before .before .section in
+    omega (arith, row-fits _ _ _ _ _ _ _ _ _ _ _ _ (section .inv) (by-head (c .before .before .before .before .before .before .before .before .before .before .before .before .before .before .before)) .0)
 
 section-less-3 : tie.Need-section-less-3 Inv-loop μ-loop Inv-section μ-section
 section-less-3 c =
-    let section = c .before .before .before .before .before .before .before .before .before .before .before .before .before .before .before .before .before .before .before .before .before .section in
-    omega (arith, data-end _ _ _ _ _ _ _ _ _ _ _ _ (section .inv) (by-head (c .before .before .before .before .before .before .before .before .before .before .before .before .before .before .before .before .before .before)) _ (by-end (c .before .before .before .before .before .before .before .before .before .before)))
+    let section = c .before .before .before .before .before .before .before .before .before .before .before .before .before .before .before .before .before .before .section in
+    omega (arith, data-end _ _ _ _ _ _ _ _ _ _ _ _ (section .inv) (by-head (c .before .before .before .before .before .before .before .before .before .before .before .before .before .before .before)) _ (by-turns (c .before .before .before .before .before .before .before .before .before)))
 
 section-again-3 : tie.Need-section-again-3 Inv-loop μ-loop Inv-section μ-section
 section-again-3 c =
-    let section = c .before .before .before .before .before .before .before .before .before .before .before .before .before .before .before .before .before .before .before .before .before .section in
+    let section = c .before .before .before .before .before .before .before .before .before .before .before .before .before .before .before .before .before .before .section in
     let note2 = c .before .before .before .before .before .before .before .note2 in
-    let if2 = c .before .before .before .before .if2 in
+    let if1 = c .before .before .before .before .if1 in
     let put-row3 = c .before .before .put-row3 in
-    rw (put-row3 .ensures) (scan-row-ended _ _ _ _ _ _ _ _ _ _ _ _ (section .inv) (by-head (c .before .before .before .before .before .before .before .before .before .before .before .before .before .before .before .before .before .before)) _ (by-end (c .before .before .before .before .before .before .before .before .before .before)) _ _ (note2 .ensures .0) (note2 .ensures .1) (if2 .left))
+    rw (put-row3 .ensures) (scan-row-ended _ _ _ _ _ _ _ _ _ _ _ _ (section .inv) (by-head (c .before .before .before .before .before .before .before .before .before .before .before .before .before .before .before)) _ (by-turns (c .before .before .before .before .before .before .before .before .before)) _ _ (note2 .ensures .0) (note2 .ensures .1) (if1 .left))
 
 same-length : tie.Need-same-length Inv-loop μ-loop Inv-section μ-section
 same-length c =
@@ -240,19 +208,27 @@ returns-2 c =
 
 same-length-5 : tie.Need-same-length-5 Inv-loop μ-loop Inv-section μ-section
 same-length-5 c =
-    let section = c .before .before .before .before .before .before .before .before .before .before .before .before .section in
+    let section = c .before .before .before .before .before .before .before .before .before .before .before .before .before .section in
     scan-long _ _ _ _ _ _ _ _ _ _ _ _ (section .inv)
 
 same-length-6 : tie.Need-same-length-6 Inv-loop μ-loop Inv-section μ-section
 same-length-6 c =
-    let section = c .before .before .before .before .before .before .before .before .before .before .before .before .section in
+    let section = c .before .before .before .before .before .before .before .before .before .before .before .before .before .section in
     section .inv .long
 
 returns-3 : tie.Need-returns-3 Inv-loop μ-loop Inv-section μ-section
 returns-3 c =
-    let section = c .before .before .before .before .before .before .before .before .before .before .before .before .section in
-    let end-of = c .before .before .before .end-of in
-    (scanned-refused _ _ _ _ _ _ (scan-data-refused _ _ _ _ _ _ _ _ _ _ _ _ (section .inv) (by-head (c .before .before .before .before .before .before .before .before .before)) (sym (end-of .ensures) ∙ ap toldInt (c .before .e2 .given .1))), section .inv .long)
+    let args = c .before .before .before .before .before .before .before .before .before .before .before .before .before .before .before .before .before .before .args in
+    let section = c .before .before .before .before .before .before .before .before .before .before .before .before .before .section in
+    let kind = c .before .before .before .before .before .before .before .before .before .before .kind in
+    let count-of = c .before .before .before .before .before .before .before .before .count-of in
+    let loop = c .before .before .before .before .before .loop in
+    let loop-test = c .before .before .before .before .loop-test in
+    let turn = c .before .before .before .turn in (
+      scanned-refused _ _ _ _ _ _ (scan-data-refused _ _ _ _ _ _ _ _ _ _ _ _ (section .inv) (by-head (c .before .before .before .before .before .before .before .before .before .before))
+          (turn-refused (eqb (kind .given .0 .0) 3) (slotColumns (args .slots .now) (kind .given .0 .1 .0)) (args .section .now) (kind .given .0 .1 .1 .1 .0) (loop .inv) (omega (arith, loop-test .taken, count-of .ensures .0)) (sym (turn .ensures) ∙ ap toldInt (c .before .e2 .given .1)))),
+      section .inv .long,
+    )
 
 pub scan-spec : {M : Type 1} → statement M
 scan-spec =
@@ -274,21 +250,16 @@ scan-spec =
     section-less
     section-again
     (λ c. search needs)
-    way-over-requires
+    count-of-requires
+    (λ c κs. search needs)
+    turns-done-requires
     loop-holds
-    add-pass
-    mul-pass
-    element-copy-out-pass
-    pass-requires
+    turn-requires
+    (λ c. search needs)
+    (λ c. search needs)
+    add-i
     loop-less
     loop-again
-    (λ c. search needs)
-    (λ c. search needs)
-    loop-again-2
-    add-end-of
-    end-of-requires
-    (λ c. search needs)
-    (λ c. search needs)
     sub-note
     note-requires-2
     sub-put-row-2

@@ -1,0 +1,4 @@
+pub mod MapRules
+pub mod WayLaws
+pub mod StepLaws
+pub mod WordLaws

@@ -1,0 +1,5 @@
+pub mod Slots
+pub mod FormParts
+pub mod MaskLaws
+pub mod StopsMade
+pub mod ShapesMade

@@ -1,0 +1,75 @@
+// Masks of columns, made once a call. By them a map is seen at once to keep its rules.
+ghost use mathlib.Core.Path.{_≡_};
+ghost use Prim.Native.Nat.{_+_, _*_, _≤_, _<_};
+ghost use lib.ListN.{length};
+ghost use mathlib.Core.List.{map};
+ghost use Rattle.tree.specs.Schemas.{asColumn};
+ghost use Rattle.tree.specs.Table.{entriesIn};
+ghost use Rattle.walk.specs.Presence.{mark};
+ghost use Rattle.shapes.specs.Masks.{BitAdded, MasksAdded, isMarked, isUnforced};
+use column::column::Column;
+use column::packed::unpack;
+use row::rows::one;
+
+// A mask with bit `i` set where `on` says so.
+fn with_bit(mask: usize, i: usize, on: bool) -> usize
+    requires { ⌜ i < 64 ⌝ }
+    ensures { λ r. ⌜ BitAdded mask i on r ⌝ }
+{
+    if on {
+        return mask | (9_223_372_036_854_775_808 >> i);
+    }
+    mask
+}
+
+// Whether a column is a chapter that is nullable.
+fn is_marked(column: Column) -> bool
+    ensures { λ r. ⌜ r ≡ isMarked (mark column 0) ⌝ }
+{
+    if column.is_chapter() {
+        return column.is_nullable();
+    }
+    false
+}
+
+// Whether no force bit of a column may be set: it is a chapter, or not nullable.
+fn is_unforced(column: Column) -> bool
+    ensures { λ r. ⌜ r ≡ isUnforced (mark column 0) ⌝ }
+{
+    if column.is_chapter() {
+        return true;
+    }
+    !column.is_nullable()
+}
+
+// The masks of schema `k`, whose columns are in `count` slots.
+pub(crate) fn add_masks(
+    slots: &[u64; 512],
+    first: usize,
+    count: usize,
+    k: usize,
+    shapes: &mut [usize],
+)
+    requires { ⌜ (first + count ≤ 256) × (count ≤ 64) × (8 * k + 8 ≤ length (now shapes)) ⌝ }
+    ensures { λ r. ⌜ MasksAdded (map asColumn (entriesIn first count (now (slots .entry)))) k (now (shapes .entry)) (now (shapes .exit)) ⌝ }
+{
+    let mut present = 0;
+    let mut chapters = 0;
+    let mut unforced = 0;
+    let mut all = 0;
+    let mut bit = 0;
+    let mut i = 0;
+    while i < count {
+        let column = unpack(slots[first + i] as usize);
+        present = with_bit(present, bit, is_marked(column));
+        chapters = with_bit(chapters, i, column.is_chapter());
+        unforced = with_bit(unforced, i, is_unforced(column));
+        all = with_bit(all, i, true);
+        bit += one(column.is_nullable());
+        i += 1;
+    }
+    shapes[8 * k + 2] = present;
+    shapes[8 * k + 3] = chapters;
+    shapes[8 * k + 4] = unforced;
+    shapes[8 * k + 5] = all;
+}
