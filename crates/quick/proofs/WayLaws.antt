@@ -8,7 +8,7 @@ use mathlib.Core.Bool.{Bool, true, false, not}
 use native.Mathlib.Nat.{zero-div}
 use native.Mathlib.Omega.{arith}
 use lib.Dec.{ltb, eqb}
-use lib.Bits.{bitAnd, bitOr, bitXor}
+use lib.Bits.{bitAnd, bitOr, bitXor, and-zero-r}
 use lib.ListN.{length, getD, drop}
 use lib.Pow.{shr-shr}
 use borrow.Author.Tests.{lt-ltb, ltb-true}
@@ -16,21 +16,22 @@ use Rattle.wire.specs.Bits.{mapBytes, bitSet}
 use Rattle.maps.specs.Maps.{mapBits, topBit}
 use Rattle.wire.specs.Read.{Bytes, AreBytes, ok, pick}
 use Rattle.column.specs.declared.column.Column.{Column}
-use Rattle.column.specs.Columns.{width, isNullable, isStop}
+use Rattle.column.specs.Columns.{width, isChapter, isNullable, isStop}
 use Rattle.column.specs.Stops.{Stop, noStop, stopOf, prefixOf, there}
 use Rattle.stops.proofs.StopLaws.{stop-prefix}
 use Rattle.walk.specs.Presence.{noColumn, one, nullables, presenceBytes, Mark, noMark, marks, bitOf}
 use Rattle.walk.specs.Rows.{place, opened, rowEnd}
 use Rattle.walk.specs.Updates.{numbered, updateBytes, updateOpened, updateEnd}
 use Rattle.walk.specs.Leaps.{stopsFrom, tailFrom, anyColumn, carriedBit, leap}
-use Rattle.walk.proofs.Laws.{bind-of, bit-next, bit-all, bit-below, bit-few, length-marks, mark-at, map-few}
+use Rattle.walk.proofs.Laws.{bind-of, bit-next, bit-nullable, bit-all, bit-below, bit-few, length-marks, mark-at, map-few}
 use Rattle.walk.proofs.UpdateLaws.{length-numbered, number-at}
 use Rattle.walk.proofs.Leap.{original-ends, update-ends, stops-few, update-stops}
 use Rattle.shapes.specs.Data.{dataStops, dataAlways}
-use Rattle.shapes.specs.Shapes.{mapIn, tailIn, alwaysIn, Formed}
-use Rattle.shapes.specs.Masks.{Shape}
+use Rattle.shapes.specs.Shapes.{stopsIn, mapIn, tailIn, alwaysIn, Formed}
+use Rattle.shapes.specs.Masks.{Covers, isMarked, Shape}
 use Rattle.quick.specs.Quick.{Says, QuickRow, QuickUpdate, Leads, Leading, Over, Keeps}
 use Rattle.maps.proofs.MapBits.{bit-small, or-bit, without-bit}
+use Rattle.quick.proofs.WordLaws.{leap-end}
 use Rattle.quick.proofs.MapRules.{set-by, row-opens, update-opens}
 
 one-most : (b : Bool) → one b ≤ 1
@@ -232,3 +233,45 @@ module _ (shapes : List ℕ) (k : ℕ) (s : Bytes) (start : ℕ) (o : AreBytes s
       by (inr (n, t)) =
           let u : leap (carriedBit cs s start) s (dataStops true cs) 0 (place (start + 2 * updateBytes cs) 0) ≡ ok (place r n) = rw (b, f .tail) at t in
           inr (update-ends cs s start (start + 2 * updateBytes cs) opens ∙ bind-of _ u)
+
+-- Original rows without a map: none of their columns is nullable, so that none is a nullable chapter.
+none-marked : (cs : List Column) → presenceBytes cs ≡ 0 → Covers 0 isMarked (marks 0 cs)
+unfolding presenceBytes mapBytes
+none-marked cs e i l t =
+    let h : i < length cs = omega (arith, l, length-marks 0 cs) in
+    let z : nullables cs ≡ 0 = omega arith in
+    let n : isNullable (getD cs i noColumn) ≡ true = nullable-of (getD cs i noColumn) (sym (ap isMarked (mark-at cs i h)) ∙ t) in
+    absurd (omega (arith, bit-nullable cs i h n, bit-below cs (i + 1), z))
+  where
+    nullable-of : (c : Column) → pick (isChapter c) (isNullable c) false ≡ true → isNullable c ≡ true
+    nullable-of c t = go (isChapter c) t
+      where
+        go : (b : Bool) → pick b (isNullable c) false ≡ true → isNullable c ≡ true
+        go true t = t
+        go false t = let x : _≡_ {A = ℕ} 0 1 = cc in absurd (omega arith)
+
+-- where all original rows have one size, that is where they end
+pub rigid-says :
+    (shapes : List ℕ) (k : ℕ) (s : Bytes) (start : ℕ) (o : AreBytes s) {form r : ℕ} → form ≡ getD shapes (8 * k) 0 → stopsIn form ≡ 0 → mapIn form ≡ 0 →
+    (r ≡ 0) ⊎ ((r ≡ start + tailIn form) × (r ≤ length s)) → QuickRow shapes k s start r
+rigid-says shapes k s start o {form} {r} g n z (inl e) cs shape = inl e
+rigid-says shapes k s start o {form} {r} g n z (inr (e, l)) cs shape = inr (original-ends cs s start (start + presenceBytes cs) opens ∙ bind-of _ ends)
+  where
+    f : Formed shapes form false cs
+    f = rw g (shape .row)
+
+    b : presenceBytes cs ≡ 0
+    b = sym (f .map) ∙ z
+
+    here : start + presenceBytes cs ≡ start
+    here = omega (arith, b)
+
+    opens : opened cs s start ≡ ok (start + presenceBytes cs)
+    opens = row-opens cs s o (shape .few) start 0 (none-marked cs b) (and-zero-r (mapBits s start)) (omega (arith, b, e, l))
+
+    ends :
+        leap (bitSet (drop start s)) s (stopsFrom isNullable isStop 0 (marks 0 cs)) (tailFrom isStop 0 (marks 0 cs)) (place (start + presenceBytes cs) 0)
+        ≡ ok (place r 0)
+    ends =
+        let t : start + tailFrom isStop 0 (marks 0 cs) ≡ r = omega (arith, e, f .tail) in
+        rw here (leap-end (bitSet (drop start s)) s (stopsFrom isNullable isStop 0 (marks 0 cs)) (tailFrom isStop 0 (marks 0 cs)) 0 start 0 (omega (arith, f .count, n)) (omega (arith, t, l)) ∙ rw t refl)

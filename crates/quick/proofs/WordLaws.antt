@@ -25,7 +25,7 @@ unfolding leap leaps
 leap-next on s ts tail i w v h e = simp (drop-cons ts i noStop h, e, add-one i)
 
 -- behind the last
-leap-end : (on : ℕ → Bool) (s : Bytes) (ts : List Stop) (tail i p n : ℕ) → length ts ≤ i → p + tail ≤ length s →
+pub leap-end : (on : ℕ → Bool) (s : Bytes) (ts : List Stop) (tail i p n : ℕ) → length ts ≤ i → p + tail ≤ length s →
     leap on s (drop i ts) tail (place p n) ≡ ok (place (p + tail) n)
 unfolding leap leaps inside
 leap-end on s ts tail i p n h l = simp (drop-of-length-le ts h, le-leb (p + tail) (length s) l)

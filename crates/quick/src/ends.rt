@@ -1,8 +1,10 @@
 // Where row data end, from stop to stop. A number that is not 0 is their end; 0 says nothing, and the columns then say where, or why not.
 ghost use mathlib.Core.Path.{_≡_};
 ghost use mathlib.Core.Bool.{true};
+ghost use mathlib.Core.Logic.{_⊎_};
 ghost use Prim.Native.Nat.{_+_, _≤_};
 ghost use lib.ListN.{length};
+ghost use Rattle.shapes.specs.Shapes.{tailIn};
 ghost use Rattle.quick.specs.Quick.{Keeps, Over, QuickRow, QuickUpdate};
 use crate::steps::TOO_LONG;
 use crate::steps::lead_over;
@@ -10,6 +12,7 @@ use crate::steps::length_over;
 use maps::maps::bits_at;
 use shapes::forms::always_in;
 use shapes::forms::first_in;
+use shapes::forms::is_rigid;
 use shapes::forms::map_in;
 use shapes::forms::stops_in;
 use shapes::forms::tail_in;
@@ -78,6 +81,16 @@ fn keeps(updated: u64, forced: u64, chapters: u64, unforced: u64, all: u64) -> b
     force & updated == force
 }
 
+// The end of original row data that all have one size, which is the form's bytes behind the last stop.
+fn rigid_end(form: usize, size: usize, start: usize) -> usize
+    ensures { λ r. ⌜ (r ≡ 0) ⊎ ((r ≡ start + tailIn form) × (r ≤ size)) ⌝ }
+{
+    if holds(size, start, tail_in(form)) {
+        return start + tail_in(form);
+    }
+    0
+}
+
 // Where the original row data at `start` of schema `k` end.
 pub fn quick_row(shapes: &[usize], k: usize, section: &[u8], start: usize) -> usize
     ensures { λ r. ⌜ QuickRow (now (shapes .entry)) k (now (section .entry)) start r ⌝ }
@@ -86,6 +99,9 @@ pub fn quick_row(shapes: &[usize], k: usize, section: &[u8], start: usize) -> us
         return 0;
     }
     let form = shapes[HEAD * k];
+    if is_rigid(form) {
+        return rigid_end(form, section.len(), start);
+    }
     let size = map_in(form);
     if holds(section.len(), start, size) {
         let bits = bits_at(section, start);

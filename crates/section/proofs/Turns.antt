@@ -17,44 +17,44 @@ use Rattle.walk.proofs.Data.{data-closed, Walking, walking-start, walking-next,
 use Rattle.quick.specs.Quick.{Says}
 use Rattle.section.specs.Ends.{turned}
 
--- Before turn i, at p: the end is said; or nothing is done yet; or the walk stands before column i - 1.
-pub data AtTurn (u : Bool) (cs : List Column) (s : Bytes) (start p : ℕ) : (i : ℕ) → Type 0 where
-  said : {i : ℕ} → i ≡ length cs + 1 → dataEnd u cs s start ≡ ok p → AtTurn u cs s start p i
-  first : AtTurn u cs s start p 0
-  later : {i : ℕ} → i ≤ length cs → Walking u cs s start p i → AtTurn u cs s start p (suc i)
+-- Before turn i of so many, at p: the end is said; or nothing is done yet; or the walk stands before column i - 1.
+pub data AtTurn (u : Bool) (cs : List Column) (s : Bytes) (start p turns : ℕ) : (i : ℕ) → Type 0 where
+  said : {i : ℕ} → turns ≡ 0 → dataEnd u cs s start ≡ ok p → AtTurn u cs s start p turns i
+  first : turns ≡ length cs + 1 → AtTurn u cs s start p turns 0
+  later : {i : ℕ} → turns ≡ length cs + 1 → i ≤ length cs → Walking u cs s start p i → AtTurn u cs s start p turns (suc i)
 
 module _ (u : Bool) (cs : List Column) (s : Bytes) (start : ℕ) where
-  pub turn-start : {p i n : ℕ} → Says (dataEnd u cs s start) p → n ≡ length cs → i ≡ pick (eqb p 0) 0 (n + 1) → AtTurn u cs s start p i
-  turn-start {p} {i} {n} says z e = go (eqb p 0) refl says e
+  pub turn-start : {p turns : ℕ} → Says (dataEnd u cs s start) p → turns ≡ pick (eqb p 0) (length cs + 1) 0 → AtTurn u cs s start p turns 0
+  turn-start {p} {turns} says e = go (eqb p 0) refl says e
     where
-      go : (t : Bool) → eqb p 0 ≡ t → Says (dataEnd u cs s start) p → i ≡ pick t 0 (n + 1) → AtTurn u cs s start p i
-      go true t says e = rw e first
+      go : (t : Bool) → eqb p 0 ≡ t → Says (dataEnd u cs s start) p → turns ≡ pick t (length cs + 1) 0 → AtTurn u cs s start p turns 0
+      go true t says e = first e
       go false t (inl x) e = absurd (eqb-false _ _ t x)
-      go false t (inr x) e = said {i = i} (omega arith) x
+      go false t (inr x) e = said e x
 
-  -- no more turns than the columns and one
-  pub turn-most : {p i : ℕ} → AtTurn u cs s start p i → i ≤ length cs + 1
-  turn-most (said e x) = omega arith
-  turn-most first = omega arith
-  turn-most (later h w) = omega arith
+  -- a turn that is taken is the first, or that of a column
+  pub turn-inside : {p turns i : ℕ} → i < turns → AtTurn u cs s start p turns i → i ≤ length cs
+  turn-inside h (said e x) = absurd (omega arith)
+  turn-inside h (first e) = omega arith
+  turn-inside h (later e l w) = omega arith
 
-  pub turn-next : {p i q : ℕ} → AtTurn u cs s start p i → i ≤ length cs → turned u cs s start p i ≡ ok q → AtTurn u cs s start q (i + 1)
-  turn-next {p} {i} {q} (said e x) h t = absurd (omega arith)
-  turn-next {p} {q = q} first h t = later {i = 0} (omega arith) (walking-start u cs s start q t)
-  turn-next {p} {q = q} (later {i = i} l w) h t =
+  pub turn-next : {p turns i q : ℕ} → i < turns → AtTurn u cs s start p turns i → turned u cs s start p i ≡ ok q → AtTurn u cs s start q turns (i + 1)
+  turn-next h (said e x) t = absurd (omega arith)
+  turn-next {q = q} h (first e) t = later {i = 0} e (omega arith) (walking-start u cs s start q t)
+  turn-next {q = q} h (later {i = i} e l w) t =
       let z : suc i + 1 ≡ suc (i + 1) = omega arith in
-      rw z (later {i = i + 1} (omega arith) (walking-next u cs s start w (omega arith) q t))
+      rw z (later {i = i + 1} e (omega arith) (walking-next u cs s start w (omega arith) q t))
 
   pub turn-refused :
-      {p i : ℕ} {c o : ℕ} {x : Input} → AtTurn u cs s start p i → i ≤ length cs → turned u cs s start p i ≡ bad c o x → dataEnd u cs s start ≡ bad c o x
-  turn-refused (said e x) h t = absurd (omega arith)
-  turn-refused first h t = data-closed u cs s start t
-  turn-refused (later l w) h t = walking-refused u cs s start w (omega arith) t
+      {p turns i : ℕ} {c o : ℕ} {x : Input} → i < turns → AtTurn u cs s start p turns i → turned u cs s start p i ≡ bad c o x → dataEnd u cs s start ≡ bad c o x
+  turn-refused h (said e x) t = absurd (omega arith)
+  turn-refused h (first e) t = data-closed u cs s start t
+  turn-refused h (later e l w) t = walking-refused u cs s start w (omega arith) t
 
-  pub turn-end : {p i : ℕ} → AtTurn u cs s start p i → length cs < i → dataEnd u cs s start ≡ ok p
-  turn-end (said e x) h = x
-  turn-end first h = absurd (omega arith)
-  turn-end (later l w) h = walking-end u cs s start w (omega arith)
+  pub turn-end : {p turns i : ℕ} → turns ≤ i → AtTurn u cs s start p turns i → dataEnd u cs s start ≡ ok p
+  turn-end h (said e x) = x
+  turn-end h (first e) = absurd (omega arith)
+  turn-end h (later e l w) = walking-end u cs s start w (omega arith)
 
 -- what a turn answers, by its number
 module _ (u : Bool) (cs : List Column) (s : Bytes) (start at : ℕ) {r : Read ℕ} where

@@ -35,20 +35,16 @@ pub(crate) fn quick_end(
     quick_row(shapes, number, section, start)
 }
 
-// How many turns are done where the quick way says `end`: all of `count` columns and the opening, or none.
-pub(crate) fn turns_done(end: usize, count: usize) -> usize
-    requires { ⌜ count ≤ 65536 ⌝ }
-    ensures { λ r. ⌜ r ≡ pick (eqb end 0) 0 (count + 1) ⌝ }
-{
-    if end == 0 { 0 } else { count + 1 }
-}
-
-// How many columns schema `number` has.
-pub(crate) fn count_of(slots: &[u64; 512], number: usize) -> usize
+// How many turns row data of schema `number` take where the quick way says `end`: none; or, where it says nothing, one that opens them and one for
+// each column.
+pub(crate) fn turns_of(slots: &[u64; 512], number: usize, end: usize) -> usize
     requires { ⌜ Held (now slots) number ⌝ }
-    ensures { λ r. ⌜ (r ≡ length (slotColumns (now (slots .entry)) number)) × (r ≤ 64) ⌝ }
+    ensures { λ r. ⌜ r ≡ pick (eqb end 0) (length (slotColumns (now (slots .entry)) number) + 1) 0 ⌝ }
 {
-    (slots[SCHEMAS + number] / PART % PART) as usize
+    if end == 0 {
+        return (slots[SCHEMAS + number] / PART % PART) as usize + 1;
+    }
+    0
 }
 
 // One turn over row data: first they are opened, then each column is passed, from where the turn before came to.

@@ -8,10 +8,9 @@ ghost use Rattle.section.specs.Table.{rowsFitting, rowsRead, Listed};
 ghost use Rattle.section.specs.Sizes.{RoomForSizes};
 ghost use Rattle.section.specs.Scan.{Ready, Scanned};
 ghost use Rattle.section.specs.declared.read.RowsRead.the-variants as read;
-use crate::ends::count_of;
 use crate::ends::quick_end;
 use crate::ends::turn;
-use crate::ends::turns_done;
+use crate::ends::turns_of;
 use crate::heads::Head;
 use crate::heads::head_at;
 use crate::notes::note;
@@ -76,10 +75,10 @@ fn scan(
                 start,
             } => {
                 let update = kind == 3;
-                let count = count_of(slots, number);
                 let mut end = quick_end(shapes, number, update, section, start);
-                let mut i = turns_done(end, count);
-                while i <= count {
+                let turns = turns_of(slots, number, end);
+                let mut i = 0;
+                while i < turns {
                     match turn(slots, number, update, section, start, i, end) {
                         IntRead::Refused(e) => {
                             break 'section RowsRead::Refused(e);

@@ -1,7 +1,8 @@
 -- Forms back to their parts.
 -- Assumes nothing.
-use Prim.Native.Nat.{ℕ, _+_, _*_, _/_, _<_}
-use mathlib.Core.Path.{_≡_}
+use Prim.Native.Nat.{ℕ, _+_, _*_, _/_, _%_, _<_}
+use mathlib.Core.Path.{_≡_, sym}
+use native.Mathlib.Nat.{div-div-eq-div-mul}
 use native.Mathlib.Omega.{arith}
 use Rattle.shapes.specs.Shapes.{formOf, firstIn, stopsIn, mapIn, tailIn, alwaysIn}
 
@@ -26,3 +27,9 @@ module _ (first stops map tail always : ℕ) (f : first < 65536) (s : stops < 25
 
   pub form-always : alwaysIn (formOf first stops map tail always) ≡ always
   form-always = omega arith
+
+-- no stops and no map, where these parts together are 0
+pub rigid-parts : (form : ℕ) → form / 65536 % 65536 ≡ 0 → (stopsIn form ≡ 0) × (mapIn form ≡ 0)
+rigid-parts form e =
+    let z : form / 16777216 ≡ form / 65536 / 256 = sym (div-div-eq-div-mul form 65536 256) in
+    (omega arith, rw z (omega arith))

@@ -1,5 +1,6 @@
 // A form in one number: what row data of a schema are like.
 ghost use mathlib.Core.Path.{_≡_};
+ghost use mathlib.Core.Bool.{true};
 ghost use Prim.Native.Nat.{_<_};
 ghost use Rattle.shapes.specs.Shapes.{formOf, firstIn, stopsIn, mapIn, tailIn, alwaysIn};
 
@@ -53,4 +54,11 @@ pub fn always_in(form: usize) -> usize
     ensures { λ r. ⌜ r ≡ alwaysIn form ⌝ }
 {
     form / ALWAYS
+}
+
+// Whether there is no stop and no map, so that all data have one size.
+pub fn is_rigid(form: usize) -> bool
+    ensures { λ r. ⌜ (r ≡ true → (stopsIn form ≡ 0) × (mapIn form ≡ 0)) ⌝ }
+{
+    form / STOPS % 65_536 == 0
 }

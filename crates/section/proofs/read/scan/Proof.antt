@@ -13,16 +13,16 @@ use Rattle.shapes.proofs.Slots.{sound-held}
 use Rattle.section.specs.Heads.{toldHead}
 use Rattle.section.proofs.Scan.{Ahead}
 use Rattle.section.proofs.Scanning.{AtScan, scan-start, scan-refused, ScanDeleted, scan-deleted, scan-ahead, ahead-number, row-fits, change-fits, scan-data-refused, data-end, change-some, scan-row-ended, scan-change-ended, scan-long, scanned-rows, scanned-refused}
-use Rattle.section.proofs.Turns.{AtTurn, turn-start, turn-most, turn-next, turn-refused, turn-end}
+use Rattle.section.proofs.Turns.{AtTurn, turn-start, turn-inside, turn-next, turn-refused, turn-end}
 use borrow.Author.Needs.{needs}
 use Rattle.section.proofs.read.scan.Statement.{statement}
 use Rattle.section.proofs.read.scan.Tie as tie
 
 abbrev Inv-loop : tie.InvT-loop
-Inv-loop slots shapes schemas section table sizes at rows child last origin used kind number id start update count end₀ i₀ end i = AtTurn update (slotColumns slots number) section start end i
+Inv-loop slots shapes schemas section table sizes at rows child last origin used kind number id start update end₀ turns i₀ end i = AtTurn update (slotColumns slots number) section start end turns i
 
 abbrev μ-loop : tie.MeasureT-loop
-μ-loop slots shapes schemas section table sizes at rows child last origin used kind number id start update count end₀ i₀ end i = count + 1 - i
+μ-loop slots shapes schemas section table sizes at rows child last origin used kind number id start update end₀ turns i₀ end i = turns - i
 
 abbrev Inv-section : tie.InvT-section
 Inv-section slots shapes schemas section table₀ sizes₀ at₀ rows₀ child₀ last₀ origin₀ used₀ table sizes at rows child last origin used = AtScan slots schemas section table₀ table sizes₀ sizes at rows child origin used
@@ -39,8 +39,8 @@ by-head k = scan-ahead _ _ _ _ _ _ _ _ _ _ _ _ ((k .before .before .before .sect
 by-number : (k : tie.After-kind Inv-loop μ-loop Inv-section μ-section) → Held ((k .before .before .before .before .before .before .before .before .args) .slots .now) ((k .kind) .given .0 .1 .0)
 by-number k = sound-held ((k .before .before .before .before .before .before .before .before .pre) .0 .sound) (ahead-number _ _ _ _ _ _ _ _ _ _ _ _ ((k .before .before .before .section) .inv) (by-head k))
 
-by-turns : (l : tie.After-loop Inv-loop μ-loop Inv-section μ-section) → dataEnd (eqb ((l .before .before .before .before .before .before .kind) .given .0 .0) 3) (slotColumns ((l .before .before .before .before .before .before .before .before .before .before .before .before .before .before .args) .slots .now) ((l .before .before .before .before .before .before .kind) .given .0 .1 .0)) ((l .before .before .before .before .before .before .before .before .before .before .before .before .before .before .args) .section .now) ((l .before .before .before .before .before .before .kind) .given .0 .1 .1 .1 .0) ≡ ok ((l .before .loop) .end)
-by-turns l = turn-end (eqb ((l .before .before .before .before .before .before .kind) .given .0 .0) 3) (slotColumns ((l .before .before .before .before .before .before .before .before .before .before .before .before .before .before .args) .slots .now) ((l .before .before .before .before .before .before .kind) .given .0 .1 .0)) ((l .before .before .before .before .before .before .before .before .before .before .before .before .before .before .args) .section .now) ((l .before .before .before .before .before .before .kind) .given .0 .1 .1 .1 .0) ((l .before .loop) .inv) (omega (arith, (l .loop-test) .left, (l .before .before .before .before .count-of) .ensures .0))
+by-turns : (l : tie.After-loop Inv-loop μ-loop Inv-section μ-section) → dataEnd (eqb ((l .before .before .before .before .before .kind) .given .0 .0) 3) (slotColumns ((l .before .before .before .before .before .before .before .before .before .before .before .before .before .args) .slots .now) ((l .before .before .before .before .before .kind) .given .0 .1 .0)) ((l .before .before .before .before .before .before .before .before .before .before .before .before .before .args) .section .now) ((l .before .before .before .before .before .kind) .given .0 .1 .1 .1 .0) ≡ ok ((l .before .loop) .end)
+by-turns l = turn-end (eqb ((l .before .before .before .before .before .kind) .given .0 .0) 3) (slotColumns ((l .before .before .before .before .before .before .before .before .before .before .before .before .before .args) .slots .now) ((l .before .before .before .before .before .kind) .given .0 .1 .0)) ((l .before .before .before .before .before .before .before .before .before .before .before .before .before .args) .section .now) ((l .before .before .before .before .before .kind) .given .0 .1 .1 .1 .0) ((l .loop-test) .left) ((l .before .loop) .inv)
 
 section-holds : tie.Need-section-holds Inv-loop μ-loop Inv-section μ-section
 section-holds c =
@@ -77,31 +77,23 @@ section-again c =
     let note = c .before .before .note in
     rw (put-row .ensures) (by-delete (c .before .before .before .before .before .before .before .before .before) .next _ _ (note .ensures .0) (note .ensures .1))
 
-count-of-requires : tie.Need-count-of-requires Inv-loop μ-loop Inv-section μ-section
-count-of-requires c κs = by-number (c .before)
-
-turns-done-requires : tie.Need-turns-done-requires Inv-loop μ-loop Inv-section μ-section
-turns-done-requires c κs = omega (arith, c .before .count-of .ensures .1)
+turns-of-requires : tie.Need-turns-of-requires Inv-loop μ-loop Inv-section μ-section
+turns-of-requires c κs = by-number (c .before .before)
 
 loop-holds : tie.Need-loop-holds Inv-loop μ-loop Inv-section μ-section
 loop-holds c =
-    let args = c .before .before .before .before .before .before .before .before .before .before .before .before .args in
-    let pre = c .before .before .before .before .before .before .before .before .before .before .before .before .pre in
-    let section = c .before .before .before .before .before .before .before .section in
-    let kind = c .before .before .before .before .kind in
-    let count-of = c .before .before .count-of in
-    turn-start (eqb (kind .given .0 .0) 3) (slotColumns (args .slots .now) (kind .given .0 .1 .0)) (args .section .now) (kind .given .0 .1 .1 .1 .0) (c .before .quick-end .ensures _ (pre .0 .shaped _ (ahead-number _ _ _ _ _ _ _ _ _ _ _ _ (section .inv) (by-head (c .before .before .before .before))))) (count-of .ensures .0) (c .turns-done .ensures)
+    let args = c .before .before .before .before .before .before .before .before .before .before .before .args in
+    let pre = c .before .before .before .before .before .before .before .before .before .before .before .pre in
+    let section = c .before .before .before .before .before .before .section in
+    let kind = c .before .before .before .kind in
+    turn-start (eqb (kind .given .0 .0) 3) (slotColumns (args .slots .now) (kind .given .0 .1 .0)) (args .section .now) (kind .given .0 .1 .1 .1 .0) (c .before .quick-end .ensures _ (pre .0 .shaped _ (ahead-number _ _ _ _ _ _ _ _ _ _ _ _ (section .inv) (by-head (c .before .before .before))))) (c .turns-of .ensures)
 
 turn-requires : tie.Need-turn-requires Inv-loop μ-loop Inv-section μ-section
 turn-requires c κs =
-    let count-of = c .before .before .before .before .count-of in
-    (by-number (c .before .before .before .before .before .before), omega (arith, c .loop-test .taken, count-of .ensures .0))
-
-add-i : tie.Need-add-i Inv-loop μ-loop Inv-section μ-section
-add-i c =
-    let count-of = c .before .before .before .before .before .before .before .before .count-of in
-    let loop-test = c .before .before .before .before .loop-test in
-    omega (arith, loop-test .taken, count-of .ensures .1)
+    let args = c .before .before .before .before .before .before .before .before .before .before .before .before .before .args in
+    let kind = c .before .before .before .before .before .kind in
+    let loop = c .before .loop in
+    (by-number (c .before .before .before .before .before), turn-inside (eqb (kind .given .0 .0) 3) (slotColumns (args .slots .now) (kind .given .0 .1 .0)) (args .section .now) (kind .given .0 .1 .1 .1 .0) (c .loop-test .taken) (loop .inv))
 
 loop-less : tie.Need-loop-less Inv-loop μ-loop Inv-section μ-section
 loop-less c =
@@ -110,69 +102,68 @@ loop-less c =
 
 loop-again : tie.Need-loop-again Inv-loop μ-loop Inv-section μ-section
 loop-again c =
-    let args = c .before .before .before .before .before .before .before .before .before .before .before .before .before .before .before .before .before .before .args in
-    let kind = c .before .before .before .before .before .before .before .before .before .before .kind in
-    let count-of = c .before .before .before .before .before .before .before .before .count-of in
+    let args = c .before .before .before .before .before .before .before .before .before .before .before .before .before .before .before .before .before .args in
+    let kind = c .before .before .before .before .before .before .before .before .before .kind in
     let loop = c .before .before .before .before .before .loop in
     let loop-test = c .before .before .before .before .loop-test in
     let turn = c .before .before .before .turn in
-    turn-next (eqb (kind .given .0 .0) 3) (slotColumns (args .slots .now) (kind .given .0 .1 .0)) (args .section .now) (kind .given .0 .1 .1 .1 .0) (loop .inv) (omega (arith, loop-test .taken, count-of .ensures .0)) (sym (turn .ensures) ∙ ap toldInt (c .before .p .given .1))
+    turn-next (eqb (kind .given .0 .0) 3) (slotColumns (args .slots .now) (kind .given .0 .1 .0)) (args .section .now) (kind .given .0 .1 .1 .1 .0) (loop-test .taken) (loop .inv) (sym (turn .ensures) ∙ ap toldInt (c .before .p .given .1))
 
 sub-note : tie.Need-sub-note Inv-loop μ-loop Inv-section μ-section
 sub-note c =
-    let section = c .before .before .before .before .before .before .before .before .before .before .section in
-    omega (arith, data-end _ _ _ _ _ _ _ _ _ _ _ _ (section .inv) (by-head (c .before .before .before .before .before .before .before)) _ (by-turns (c .before)))
+    let section = c .before .before .before .before .before .before .before .before .before .section in
+    omega (arith, data-end _ _ _ _ _ _ _ _ _ _ _ _ (section .inv) (by-head (c .before .before .before .before .before .before)) _ (by-turns (c .before)))
 
 note-requires-2 : tie.Need-note-requires-2 Inv-loop μ-loop Inv-section μ-section
 note-requires-2 c κs =
-    let section = c .before .before .before .before .before .before .before .before .before .before .section in
-    (section .inv .room .0, section .inv .room .1, omega (arith, data-end _ _ _ _ _ _ _ _ _ _ _ _ (section .inv) (by-head (c .before .before .before .before .before .before .before)) _ (by-turns (c .before))))
+    let section = c .before .before .before .before .before .before .before .before .before .section in
+    (section .inv .room .0, section .inv .room .1, omega (arith, data-end _ _ _ _ _ _ _ _ _ _ _ _ (section .inv) (by-head (c .before .before .before .before .before .before)) _ (by-turns (c .before))))
 
 sub-put-row-2 : tie.Need-sub-put-row-2 Inv-loop μ-loop Inv-section μ-section
 sub-put-row-2 c =
-    let section = c .before .before .before .before .before .before .before .before .before .before .before .before .before .before .before .section in
-    change-some _ _ _ _ _ _ _ _ _ _ _ _ (section .inv) (by-head (c .before .before .before .before .before .before .before .before .before .before .before .before)) _ (by-turns (c .before .before .before .before .before .before)) (c .before .if1 .taken)
+    let section = c .before .before .before .before .before .before .before .before .before .before .before .before .before .before .section in
+    change-some _ _ _ _ _ _ _ _ _ _ _ _ (section .inv) (by-head (c .before .before .before .before .before .before .before .before .before .before .before)) _ (by-turns (c .before .before .before .before .before .before)) (c .before .if1 .taken)
 
 put-row-requires-2 : tie.Need-put-row-requires-2 Inv-loop μ-loop Inv-section μ-section
 put-row-requires-2 c κs =
-    let section = c .before .before .before .before .before .before .before .before .before .before .before .before .before .before .before .section in
-    change-fits _ _ _ _ _ _ _ _ _ _ _ _ (section .inv) (by-head (c .before .before .before .before .before .before .before .before .before .before .before .before))
+    let section = c .before .before .before .before .before .before .before .before .before .before .before .before .before .before .section in
+    change-fits _ _ _ _ _ _ _ _ _ _ _ _ (section .inv) (by-head (c .before .before .before .before .before .before .before .before .before .before .before))
 
 section-less-2 : tie.Need-section-less-2 Inv-loop μ-loop Inv-section μ-section
 section-less-2 c =
-    let section = c .before .before .before .before .before .before .before .before .before .before .before .before .before .before .before .before .before .before .section in
-    omega (arith, data-end _ _ _ _ _ _ _ _ _ _ _ _ (section .inv) (by-head (c .before .before .before .before .before .before .before .before .before .before .before .before .before .before .before)) _ (by-turns (c .before .before .before .before .before .before .before .before .before)))
+    let section = c .before .before .before .before .before .before .before .before .before .before .before .before .before .before .before .before .before .section in
+    omega (arith, data-end _ _ _ _ _ _ _ _ _ _ _ _ (section .inv) (by-head (c .before .before .before .before .before .before .before .before .before .before .before .before .before .before)) _ (by-turns (c .before .before .before .before .before .before .before .before .before)))
 
 section-again-2 : tie.Need-section-again-2 Inv-loop μ-loop Inv-section μ-section
 section-again-2 c =
-    let section = c .before .before .before .before .before .before .before .before .before .before .before .before .before .before .before .before .before .before .section in
+    let section = c .before .before .before .before .before .before .before .before .before .before .before .before .before .before .before .before .before .section in
     let note2 = c .before .before .before .before .before .before .before .note2 in
     let if1 = c .before .before .before .before .if1 in
     let put-row2 = c .before .before .put-row2 in
-    rw (put-row2 .ensures) (scan-change-ended _ _ _ _ _ _ _ _ _ _ _ _ (section .inv) (by-head (c .before .before .before .before .before .before .before .before .before .before .before .before .before .before .before)) _ (by-turns (c .before .before .before .before .before .before .before .before .before)) _ _ (note2 .ensures .0) (note2 .ensures .1) (if1 .taken))
+    rw (put-row2 .ensures) (scan-change-ended _ _ _ _ _ _ _ _ _ _ _ _ (section .inv) (by-head (c .before .before .before .before .before .before .before .before .before .before .before .before .before .before)) _ (by-turns (c .before .before .before .before .before .before .before .before .before)) _ _ (note2 .ensures .0) (note2 .ensures .1) (if1 .taken))
 
 put-row-requires-3 : tie.Need-put-row-requires-3 Inv-loop μ-loop Inv-section μ-section
 put-row-requires-3 c κs =
-    let section = c .before .before .before .before .before .before .before .before .before .before .before .before .before .before .before .section in
-    row-fits _ _ _ _ _ _ _ _ _ _ _ _ (section .inv) (by-head (c .before .before .before .before .before .before .before .before .before .before .before .before))
+    let section = c .before .before .before .before .before .before .before .before .before .before .before .before .before .before .section in
+    row-fits _ _ _ _ _ _ _ _ _ _ _ _ (section .inv) (by-head (c .before .before .before .before .before .before .before .before .before .before .before))
 
 add-rows : tie.Need-add-rows Inv-loop μ-loop Inv-section μ-section
 add-rows c =
-    let section = c .before .before .before .before .before .before .before .before .before .before .before .before .before .before .before .before .before .before .section in
-    omega (arith, row-fits _ _ _ _ _ _ _ _ _ _ _ _ (section .inv) (by-head (c .before .before .before .before .before .before .before .before .before .before .before .before .before .before .before)) .0)
+    let section = c .before .before .before .before .before .before .before .before .before .before .before .before .before .before .before .before .before .section in
+    omega (arith, row-fits _ _ _ _ _ _ _ _ _ _ _ _ (section .inv) (by-head (c .before .before .before .before .before .before .before .before .before .before .before .before .before .before)) .0)
 
 section-less-3 : tie.Need-section-less-3 Inv-loop μ-loop Inv-section μ-section
 section-less-3 c =
-    let section = c .before .before .before .before .before .before .before .before .before .before .before .before .before .before .before .before .before .before .section in
-    omega (arith, data-end _ _ _ _ _ _ _ _ _ _ _ _ (section .inv) (by-head (c .before .before .before .before .before .before .before .before .before .before .before .before .before .before .before)) _ (by-turns (c .before .before .before .before .before .before .before .before .before)))
+    let section = c .before .before .before .before .before .before .before .before .before .before .before .before .before .before .before .before .before .section in
+    omega (arith, data-end _ _ _ _ _ _ _ _ _ _ _ _ (section .inv) (by-head (c .before .before .before .before .before .before .before .before .before .before .before .before .before .before)) _ (by-turns (c .before .before .before .before .before .before .before .before .before)))
 
 section-again-3 : tie.Need-section-again-3 Inv-loop μ-loop Inv-section μ-section
 section-again-3 c =
-    let section = c .before .before .before .before .before .before .before .before .before .before .before .before .before .before .before .before .before .before .section in
+    let section = c .before .before .before .before .before .before .before .before .before .before .before .before .before .before .before .before .before .section in
     let note2 = c .before .before .before .before .before .before .before .note2 in
     let if1 = c .before .before .before .before .if1 in
     let put-row3 = c .before .before .put-row3 in
-    rw (put-row3 .ensures) (scan-row-ended _ _ _ _ _ _ _ _ _ _ _ _ (section .inv) (by-head (c .before .before .before .before .before .before .before .before .before .before .before .before .before .before .before)) _ (by-turns (c .before .before .before .before .before .before .before .before .before)) _ _ (note2 .ensures .0) (note2 .ensures .1) (if1 .left))
+    rw (put-row3 .ensures) (scan-row-ended _ _ _ _ _ _ _ _ _ _ _ _ (section .inv) (by-head (c .before .before .before .before .before .before .before .before .before .before .before .before .before .before)) _ (by-turns (c .before .before .before .before .before .before .before .before .before)) _ _ (note2 .ensures .0) (note2 .ensures .1) (if1 .left))
 
 same-length : tie.Need-same-length Inv-loop μ-loop Inv-section μ-section
 same-length c =
@@ -208,25 +199,24 @@ returns-2 c =
 
 same-length-5 : tie.Need-same-length-5 Inv-loop μ-loop Inv-section μ-section
 same-length-5 c =
-    let section = c .before .before .before .before .before .before .before .before .before .before .before .before .before .section in
+    let section = c .before .before .before .before .before .before .before .before .before .before .before .before .section in
     scan-long _ _ _ _ _ _ _ _ _ _ _ _ (section .inv)
 
 same-length-6 : tie.Need-same-length-6 Inv-loop μ-loop Inv-section μ-section
 same-length-6 c =
-    let section = c .before .before .before .before .before .before .before .before .before .before .before .before .before .section in
+    let section = c .before .before .before .before .before .before .before .before .before .before .before .before .section in
     section .inv .long
 
 returns-3 : tie.Need-returns-3 Inv-loop μ-loop Inv-section μ-section
 returns-3 c =
-    let args = c .before .before .before .before .before .before .before .before .before .before .before .before .before .before .before .before .before .before .args in
-    let section = c .before .before .before .before .before .before .before .before .before .before .before .before .before .section in
-    let kind = c .before .before .before .before .before .before .before .before .before .before .kind in
-    let count-of = c .before .before .before .before .before .before .before .before .count-of in
+    let args = c .before .before .before .before .before .before .before .before .before .before .before .before .before .before .before .before .before .args in
+    let section = c .before .before .before .before .before .before .before .before .before .before .before .before .section in
+    let kind = c .before .before .before .before .before .before .before .before .before .kind in
     let loop = c .before .before .before .before .before .loop in
     let loop-test = c .before .before .before .before .loop-test in
     let turn = c .before .before .before .turn in (
-      scanned-refused _ _ _ _ _ _ (scan-data-refused _ _ _ _ _ _ _ _ _ _ _ _ (section .inv) (by-head (c .before .before .before .before .before .before .before .before .before .before))
-          (turn-refused (eqb (kind .given .0 .0) 3) (slotColumns (args .slots .now) (kind .given .0 .1 .0)) (args .section .now) (kind .given .0 .1 .1 .1 .0) (loop .inv) (omega (arith, loop-test .taken, count-of .ensures .0)) (sym (turn .ensures) ∙ ap toldInt (c .before .e2 .given .1)))),
+      scanned-refused _ _ _ _ _ _ (scan-data-refused _ _ _ _ _ _ _ _ _ _ _ _ (section .inv) (by-head (c .before .before .before .before .before .before .before .before .before))
+          (turn-refused (eqb (kind .given .0 .0) 3) (slotColumns (args .slots .now) (kind .given .0 .1 .0)) (args .section .now) (kind .given .0 .1 .1 .1 .0) (loop-test .taken) (loop .inv) (sym (turn .ensures) ∙ ap toldInt (c .before .e2 .given .1)))),
       section .inv .long,
     )
 
@@ -250,14 +240,13 @@ scan-spec =
     section-less
     section-again
     (λ c. search needs)
-    count-of-requires
     (λ c κs. search needs)
-    turns-done-requires
+    turns-of-requires
     loop-holds
     turn-requires
     (λ c. search needs)
     (λ c. search needs)
-    add-i
+    (λ c. search needs)
     loop-less
     loop-again
     sub-note
