@@ -25,11 +25,11 @@ use Rattle.walk.specs.Presence.{one}
 use Rattle.walk.specs.Rows.{Place, place}
 use Rattle.walk.specs.Leaps.{passed, leaps}
 use Rattle.walk.proofs.Leap.{span-long, error-long}
-use Rattle.row.specs.declared.rows.WalkRead.{WalkRead}
-use Rattle.row.specs.declared.rows.WalkRead.the-variants as walk
 use Rattle.plan.specs.declared.plan.Plan.{Plan}
 use Rattle.plan.specs.Packed.{beforeIn}
 use Rattle.plan.specs.Plans.{plannedWord, plannedColumn, plannedFirst}
+use Rattle.jump.specs.declared.look.Way.{Way}
+use Rattle.jump.specs.declared.look.Way.the-variants as way
 use Rattle.jump.specs.Jumps.{tabled, startsBefore, stopsGone, byBit, unsetFrom, unset}
 use Rattle.jump.specs.Lent.{Near, BitsOf, over}
 
@@ -60,38 +60,50 @@ module _ (word : ℕ) (row : Bytes) (bits : ℕ) (b : BitsOf row bits) {n : ℕ}
 
   -- Past a stop of fixed width.
   pub passed-fixed :
-      (w : Place) {g s : ℕ} → g ≡ stopIn word .gap → s ≡ stopIn word .size → stopIn word .variable ≡ false →
-      ok (place (w .at + (g + s * n)) (w .prefixes)) ≡ passed (bitSet row) row (byBit (stopIn word)) w
+      (base length prefixes : ℕ) {g s : ℕ} → g ≡ stopIn word .gap → s ≡ stopIn word .size → stopIn word .variable ≡ false →
+      ok (place (base + g + s * n + length) prefixes) ≡ passed (bitSet row) row (byBit (stopIn word)) (place (base + length) prefixes)
   unfolding passed byBit spanAt spanError
-  passed-fixed w {g} {s} eg es v =
-      let z : w .at + (g + s * n) ≡ w .at + g + s * n = omega (arith) in
-      ap (λ (q : ℕ). ok (place q (w .prefixes))) z ∙ rw (stop-bit, eg, es, v) (go (bitSet row (stopIn word .bit)))
+  passed-fixed base length prefixes {g} {s} eg es v =
+      let z : base + g + s * n + length ≡ base + length + g + s * n = omega (arith) in
+      ap (λ (q : ℕ). ok (place q prefixes)) z ∙ rw (stop-bit, eg, es, v) (go (bitSet row (stopIn word .bit)))
     where
       go :
           (t : Bool) →
-          ok (place (w .at + stopIn word .gap + stopIn word .size * one t) (w .prefixes))
-          ≡ pick t (ok (place (w .at + stopIn word .gap + stopIn word .size) (w .prefixes + 0))) (ok (place (w .at + stopIn word .gap) (w .prefixes)))
+          ok (place (base + length + stopIn word .gap + stopIn word .size * one t) prefixes)
+          ≡ pick t (ok (place (base + length + stopIn word .gap + stopIn word .size) (prefixes + 0))) (ok (place (base + length + stopIn word .gap) prefixes))
       go true =
           let x : stopIn word .size * 1 ≡ stopIn word .size = omega arith in
-          let y : w .prefixes + 0 ≡ w .prefixes = omega arith in
+          let y : prefixes + 0 ≡ prefixes = omega arith in
           rw (x, y) refl
-      go false = let x : w .at + stopIn word .gap + stopIn word .size * 0 ≡ w .at + stopIn word .gap = omega arith in rw x refl
+      go false = let x : base + length + stopIn word .gap + stopIn word .size * 0 ≡ base + length + stopIn word .gap = omega arith in rw x refl
 
 pub there-always : (word : ℕ) (row : Bytes) {t : Bool} → t ≡ stopIn word .free → t ≡ false → true ≡ there (bitSet row) (stopIn word)
 there-always word row f h = rw (← f, h) refl
 
 -- Past a stop of variable length.
 
-module _ (word : ℕ) (row : Bytes) (w : Place) {g : ℕ} (eg : g ≡ stopIn word .gap) (v : stopIn word .variable ≡ true) where
+pub prefix-long : (word : ℕ) → stopIn word .long ≡ true → prefixOf (stopIn word) ≡ 4
+prefix-long word l = rw l refl
+
+pub prefix-short : (word : ℕ) → stopIn word .long ≡ false → prefixOf (stopIn word) ≡ 1
+prefix-short word l = rw l refl
+
+module _
+    (word : ℕ) (row : Bytes) (base length prefixes : ℕ) {g : ℕ} (eg : g ≡ stopIn word .gap) (v : stopIn word .variable ≡ true) where
+  behind : base + g + length ≡ base + length + stopIn word .gap
+  behind = omega (arith, eg)
+
   pub passed-absent :
-      there (bitSet row) (stopIn word) ≡ false → ok (place (w .at + g) (w .prefixes)) ≡ passed (bitSet row) row (byBit (stopIn word)) w
+      there (bitSet row) (stopIn word) ≡ false →
+      ok (place (base + g + length) prefixes) ≡ passed (bitSet row) row (byBit (stopIn word)) (place (base + length) prefixes)
   unfolding passed byBit
-  passed-absent h = rw (eg, v, h) refl
+  passed-absent h = rw (behind, v, h) refl
 
   pub passed-there :
-      there (bitSet row) (stopIn word) ≡ true → over (stopIn word) row (w .at + g) (w .prefixes) ≡ passed (bitSet row) row (byBit (stopIn word)) w
+      there (bitSet row) (stopIn word) ≡ true →
+      over (stopIn word) row (base + g + length) prefixes ≡ passed (bitSet row) row (byBit (stopIn word)) (place (base + length) prefixes)
   unfolding passed byBit spanAt spanError lengthAt
-  passed-there h = rw (eg, v, h) refl
+  passed-there h = rw (behind, v, h) refl
 
 -- by its length
 module _
@@ -103,15 +115,15 @@ module _
   pub over-refused : 0 < e → bad e at input.Single ≡ over t row at prefixes
   over-refused p = rw (error-told, ne-eqb e 0 (λ z. omega (arith, z))) refl
 
-  pub over-past : {p : ℕ} → p ≡ prefixOf t → e ≡ 0 → ok (place (at + p + l) (prefixes + 1)) ≡ over t row at prefixes
+  pub over-past : {p : ℕ} → p ≡ at + prefixOf t → e ≡ 0 → ok (place (p + l) (prefixes + 1)) ≡ over t row at prefixes
   over-past {p} ep z =
-      let q : at + (prefixOf t + lengthAt t row at) ≡ at + p + l = omega (arith, el, ep) in
+      let q : at + (prefixOf t + lengthAt t row at) ≡ p + l = omega (arith, el, ep) in
       rw (error-told, z, span-long t row at v, q, v) refl
 
 -- a bound may be greater
-pub near-more : (r : WalkRead) (m n prefixes : ℕ) → m ≤ n → Near m prefixes r → Near n prefixes r
-near-more (walk.At position count) m n prefixes h (a, b) = (omega arith, b)
-near-more (walk.Refused e) m n prefixes h a = tt
+pub near-more : (r : Way) (m n prefixes : ℕ) → m ≤ n → Near m prefixes r → Near n prefixes r
+near-more (way.At base length count) m n prefixes h (a, b) = (omega arith, b)
+near-more (way.Refused e) m n prefixes h a = tt
 
 -- a size, or nothing
 pub times-one : (w o : ℕ) → o ≤ 1 → w * o ≤ w
@@ -146,6 +158,27 @@ module _ (row : Bytes) (n : ℕ) (f : ℕ → Stop) (j : ℕ) (w : Place) where
     pub leaps-refused : {e o : ℕ} {i : Input} → passed (bitSet row) row (byBit (f j)) w ≡ bad e o i → leaps (bitSet row) row left w ≡ bad e o i
     unfolding leaps
     leaps-refused e = ap (λ (l : List Stop). leaps (bitSet row) row l w) one-more ∙ rw e refl
+
+module _ (row : Bytes) (n : ℕ) (f : ℕ → Stop) where
+  abbrev from : ℕ → Place → Read Place
+  from j w = leaps (bitSet row) row (map byBit (tabled f (n - j) j)) w
+
+  -- before the first, and behind it
+  pub leaps-all : (w : Place) → leaps (bitSet row) row (map byBit (tabled f n 0)) w ≡ from 0 w
+  leaps-all w = let z : n ≡ n - 0 = omega arith in ap (λ (m : ℕ). leaps (bitSet row) row (map byBit (tabled f m 0)) w) z
+
+  pub leaps-first : (w : Place) {v : Place} → 0 < n → passed (bitSet row) row (byBit (f 0)) w ≡ ok v → from 0 w ≡ from 1 v
+  leaps-first w h e = leaps-next row n f 0 w h e
+
+  -- two of them
+  module _ (j : ℕ) (w : Place) {v : Place} (h : j + 1 < n) (e : passed (bitSet row) row (byBit (f j)) w ≡ ok v) where
+    pub leaps-two : {u : Place} → passed (bitSet row) row (byBit (f (j + 1))) v ≡ ok u → from j w ≡ from (j + 2) u
+    leaps-two {u} d =
+        let z : j + 1 + 1 ≡ j + 2 = omega arith in
+        leaps-next row n f j w (omega arith) e ∙ leaps-next row n f (j + 1) v h d ∙ ap (λ (k : ℕ). from k u) z
+
+    pub leaps-second : {c o : ℕ} {i : Input} → passed (bitSet row) row (byBit (f (j + 1))) v ≡ bad c o i → from j w ≡ bad c o i
+    leaps-second d = leaps-next row n f j w (omega arith) e ∙ leaps-refused row n f (j + 1) v h d
 
 -- How many stops there are.
 
