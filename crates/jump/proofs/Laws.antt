@@ -31,7 +31,7 @@ use Rattle.plan.specs.Plans.{plannedWord, plannedColumn, plannedFirst}
 use Rattle.jump.specs.declared.look.Way.{Way}
 use Rattle.jump.specs.declared.look.Way.the-variants as way
 use Rattle.jump.specs.Jumps.{tabled, startsBefore, stopsGone, byBit, unsetFrom, unset}
-use Rattle.jump.specs.Lent.{Near, BitsOf, over}
+use Rattle.jump.specs.Lent.{Near, Behind, BitsOf, over}
 
 -- The first bits of a row as a number.
 
@@ -159,26 +159,59 @@ module _ (row : Bytes) (n : ℕ) (f : ℕ → Stop) (j : ℕ) (w : Place) where
     unfolding leaps
     leaps-refused e = ap (λ (l : List Stop). leaps (bitSet row) row l w) one-more ∙ rw e refl
 
-module _ (row : Bytes) (n : ℕ) (f : ℕ → Stop) where
-  abbrev from : ℕ → Place → Read Place
-  from j w = leaps (bitSet row) row (map byBit (tabled f (n - j) j)) w
+-- All of them.
+pub leaps-all :
+    (row : Bytes) (n : ℕ) (f : ℕ → Stop) (w : Place) →
+    leaps (bitSet row) row (map byBit (tabled f n 0)) w ≡ leaps (bitSet row) row (map byBit (tabled f (n - 0) 0)) w
+leaps-all row n f w = let z : n ≡ n - 0 = omega arith in ap (λ (m : ℕ). leaps (bitSet row) row (map byBit (tabled f m 0)) w) z
 
-  -- before the first, and behind it
-  pub leaps-all : (w : Place) → leaps (bitSet row) row (map byBit (tabled f n 0)) w ≡ from 0 w
-  leaps-all w = let z : n ≡ n - 0 = omega arith in ap (λ (m : ℕ). leaps (bitSet row) row (map byBit (tabled f m 0)) w) z
+-- Some of them, and then those behind.
+module _ (row : Bytes) (f : ℕ → Stop) where
+  abbrev over-stops : (n j : ℕ) → Place → Read Place
+  over-stops n j w = leaps (bitSet row) row (map byBit (tabled f n j)) w
 
-  pub leaps-first : (w : Place) {v : Place} → 0 < n → passed (bitSet row) row (byBit (f 0)) w ≡ ok v → from 0 w ≡ from 1 v
-  leaps-first w h e = leaps-next row n f 0 w h e
+  leaps-split :
+      (m k n j i : ℕ) (w : Place) → n ≡ m + k → i ≡ j + m → over-stops n j w ≡ over-stops m j w >>= (λ (v : Place). over-stops k i v)
+  unfolding tabled leaps
+  leaps-split zero k n j i w e h =
+      let z : n ≡ k = omega arith in
+      let y : i ≡ j = omega arith in
+      rw (z, y) refl
+  leaps-split (suc m) k n j i w e h =
+      let z : n ≡ suc (m + k) = omega arith in
+      rw z (go (λ v. leaps-split m k (m + k) (suc j) i v refl (omega arith)) (passed (bitSet row) row (byBit (f j)) w))
+    where
+      go :
+          ((v : Place) → over-stops (m + k) (suc j) v ≡ over-stops m (suc j) v >>= (λ (u : Place). over-stops k i u)) → (x : Read Place) →
+          x >>= (λ (v : Place). over-stops (m + k) (suc j) v) ≡ (x >>= (λ (v : Place). over-stops m (suc j) v)) >>= (λ (u : Place). over-stops k i u)
+      go same (ok v) = same v
+      go same (bad c o about) = refl
 
-  -- two of them
-  module _ (j : ℕ) (w : Place) {v : Place} (h : j + 1 < n) (e : passed (bitSet row) row (byBit (f j)) w ≡ ok v) where
-    pub leaps-two : {u : Place} → passed (bitSet row) row (byBit (f (j + 1))) v ≡ ok u → from j w ≡ from (j + 2) u
-    leaps-two {u} d =
-        let z : j + 1 + 1 ≡ j + 2 = omega arith in
-        leaps-next row n f j w (omega arith) e ∙ leaps-next row n f (j + 1) v h d ∙ ap (λ (k : ℕ). from k u) z
+  module _ (m k : ℕ) {n : ℕ} (j : ℕ) {i : ℕ} (w : Place) (e : n ≡ m + k) (h : i ≡ j + m) where
+    pub leaps-on : {v : Place} → over-stops m j w ≡ ok v → over-stops n j w ≡ over-stops k i v
+    leaps-on p = leaps-split m k n j i w e h ∙ rw p refl
 
-    pub leaps-second : {c o : ℕ} {i : Input} → passed (bitSet row) row (byBit (f (j + 1))) v ≡ bad c o i → from j w ≡ bad c o i
-    leaps-second d = leaps-next row n f j w (omega arith) e ∙ leaps-refused row n f (j + 1) v h d
+    pub leaps-stop : {c o : ℕ} {a : Input} → over-stops m j w ≡ bad c o a → over-stops n j w ≡ bad c o a
+    leaps-stop p = leaps-split m k n j i w e h ∙ rw p refl
+
+  -- one alone
+  pub leaps-one : (j : ℕ) (w : Place) → over-stops 1 j w ≡ passed (bitSet row) row (byBit (f j)) w
+  unfolding tabled leaps
+  leaps-one j w = go (passed (bitSet row) row (byBit (f j)) w)
+    where
+      go : (x : Read Place) → x >>= (λ (v : Place). ok v) ≡ x
+      go (ok v) = refl
+      go (bad c o about) = refl
+
+-- a step more
+pub near-behind :
+    (r : Way) (base length prefixes j : ℕ) → base + length ≤ 4295032836 * j → prefixes ≤ j → Near (base + length + 4295032836) prefixes r → Behind (j + 1) r
+near-behind (way.At b l q) base length prefixes j h i (m, n) = (omega arith, omega arith)
+near-behind (way.Refused e) base length prefixes j h i m = tt
+
+pub behind-at : (r : Way) {i j : ℕ} → i ≡ j → Behind i r → Behind j r
+behind-at (way.At b l q) e (h, i) = (omega arith, omega arith)
+behind-at (way.Refused r) e h = tt
 
 -- How many stops there are.
 

@@ -2,7 +2,7 @@
 ghost use mathlib.Core.Path.{_≡_};
 ghost use mathlib.Core.Bool.{true, false};
 ghost use mathlib.Core.List.{map};
-ghost use Prim.Native.Nat.{_≤_, _<_, _+_};
+ghost use Prim.Native.Nat.{_≤_, _<_, _+_, _*_, _-_, _%_};
 ghost use lib.ListN.{length};
 ghost use lib.Dec.{eqb};
 ghost use Rattle.wire.specs.Read.{pick, toldMatch, about};
@@ -22,7 +22,7 @@ ghost use Rattle.row.specs.Told.{toldWalk, toldLookUp};
 ghost use Rattle.plan.specs.Plans.{plannedStop, lent};
 ghost use Rattle.jump.specs.Jumps.{tabled, startsBefore, stopsGone, byBit, fieldIn, jumped, unset, plannedOpen, plannedAnswer, plannedRow};
 ghost use Rattle.jump.specs.Handles.{openedRow, startOf};
-ghost use Rattle.jump.specs.Lent.{toldWay, Near, Small, Lies, BitsOf, over, foundIn, asked};
+ghost use Rattle.jump.specs.Lent.{toldWay, wayOver, Near, Behind, Small, Lies, BitsOf, over, foundIn, asked};
 use column::column::Column;
 use column::column::LengthCheck;
 use column::column::check_length;
@@ -159,21 +159,92 @@ fn pass(word: usize, bits: u64, row: &[u8], base: usize, length: usize, prefixes
     }
 }
 
-// From stop to stop, over the first `n` stops listed: two at a turn, after the first where their number is odd.
-fn follow(plan: &[usize; 131], n: usize, row: &[u8]) -> WalkRead
-    requires { ⌜ n ≤ 64 ⌝ }
-    ensures answers { λ r. ⌜ toldWalk r ≡ leaps (bitSet (now (row .entry))) (now (row .entry)) (map byBit (tabled (plannedStop (lent (now (plan .entry)))) n 0)) (place 0 0) ⌝ }
-    ensures small { λ r. ⌜ Small 549755813888 r ⌝ }
+// Past stop `j` and the one behind it, where stop `j` is the next on the way.
+fn pass_two(
+    plan: &[usize; 131],
+    j: usize,
+    bits: u64,
+    row: &[u8],
+    base: usize,
+    length: usize,
+    prefixes: usize,
+) -> Way
+    requires { ⌜ BitsOf (now row) bits × (j + 2 ≤ 64) × (base + length ≤ 4295032836 * j) × (prefixes ≤ j) ⌝ }
+    ensures answers { λ r. ⌜ toldWay r ≡ wayOver (lent (now (plan .entry))) (now (row .entry)) 2 j (place (base + length) prefixes) ⌝ }
+    ensures behind { λ r. ⌜ Behind (j + 2) r ⌝ }
 {
-    let bits = bits_at(row, 0);
+    match pass(plan[STOPS + j], bits, row, base, length, prefixes) {
+        Way::Refused(e) => Way::Refused(e),
+        Way::At {
+            base: b,
+            length: l,
+            prefixes: q,
+        } => pass(plan[STOPS + (j + 1)], bits, row, b, l, q),
+    }
+}
+
+// Past three stops.
+fn pass_three(
+    plan: &[usize; 131],
+    j: usize,
+    bits: u64,
+    row: &[u8],
+    base: usize,
+    length: usize,
+    prefixes: usize,
+) -> Way
+    requires { ⌜ BitsOf (now row) bits × (j + 3 ≤ 64) × (base + length ≤ 4295032836 * j) × (prefixes ≤ j) ⌝ }
+    ensures answers { λ r. ⌜ toldWay r ≡ wayOver (lent (now (plan .entry))) (now (row .entry)) 3 j (place (base + length) prefixes) ⌝ }
+    ensures behind { λ r. ⌜ Behind (j + 3) r ⌝ }
+{
+    match pass(plan[STOPS + j], bits, row, base, length, prefixes) {
+        Way::Refused(e) => Way::Refused(e),
+        Way::At {
+            base: b,
+            length: l,
+            prefixes: q,
+        } => pass_two(plan, j + 1, bits, row, b, l, q),
+    }
+}
+
+// Past four stops.
+fn pass_four(
+    plan: &[usize; 131],
+    j: usize,
+    bits: u64,
+    row: &[u8],
+    base: usize,
+    length: usize,
+    prefixes: usize,
+) -> Way
+    requires { ⌜ BitsOf (now row) bits × (j + 4 ≤ 64) × (base + length ≤ 4295032836 * j) × (prefixes ≤ j) ⌝ }
+    ensures answers { λ r. ⌜ toldWay r ≡ wayOver (lent (now (plan .entry))) (now (row .entry)) 4 j (place (base + length) prefixes) ⌝ }
+    ensures behind { λ r. ⌜ Behind (j + 4) r ⌝ }
+{
+    match pass(plan[STOPS + j], bits, row, base, length, prefixes) {
+        Way::Refused(e) => Way::Refused(e),
+        Way::At {
+            base: b,
+            length: l,
+            prefixes: q,
+        } => pass_three(plan, j + 1, bits, row, b, l, q),
+    }
+}
+
+// From stop to stop, over the first `n` stops listed.
+fn pass_few(plan: &[usize; 131], n: usize, bits: u64, row: &[u8]) -> Way
+    requires { ⌜ BitsOf (now row) bits × (n ≤ 64) ⌝ }
+    ensures answers { λ r. ⌜ toldWay r ≡ wayOver (lent (now (plan .entry))) (now (row .entry)) n 0 (place 0 0) ⌝ }
+    ensures behind { λ r. ⌜ Behind n r ⌝ }
+{
     let mut base = 0;
     let mut length = 0;
     let mut prefixes = 0;
     let mut j = 0;
-    if n % 2 == 1 {
-        match pass(plan[STOPS], bits, row, 0, 0, 0) {
+    while j < n {
+        match pass(plan[STOPS + j], bits, row, base, length, prefixes) {
             Way::Refused(e) => {
-                return WalkRead::Refused(e);
+                return Way::Refused(e);
             }
             Way::At {
                 base: b,
@@ -183,39 +254,72 @@ fn follow(plan: &[usize; 131], n: usize, row: &[u8]) -> WalkRead
                 base = b;
                 length = l;
                 prefixes = q;
-                j = 1;
+                j += 1;
             }
         }
     }
+    Way::At {
+        base,
+        length,
+        prefixes,
+    }
+}
+
+// From a place on the way over the other stops, four at a turn.
+fn pass_rest(
+    plan: &[usize; 131],
+    n: usize,
+    bits: u64,
+    row: &[u8],
+    base: usize,
+    length: usize,
+    prefixes: usize,
+) -> WalkRead
+    requires { ⌜ BitsOf (now row) bits × (n ≤ 64) × (base + length ≤ 4295032836 * (n % 4)) × (prefixes ≤ n % 4) ⌝ }
+    ensures answers { λ r. ⌜ toldWalk r ≡ wayOver (lent (now (plan .entry))) (now (row .entry)) (n - n % 4) (n % 4) (place (base + length) prefixes) ⌝ }
+    ensures small { λ r. ⌜ Small 549755813888 r ⌝ }
+{
+    let mut b = base;
+    let mut l = length;
+    let mut q = prefixes;
+    let mut j = n % 4;
     while j < n {
-        match pass(plan[STOPS + j], bits, row, base, length, prefixes) {
+        match pass_four(plan, j, bits, row, b, l, q) {
             Way::Refused(e) => {
                 return WalkRead::Refused(e);
             }
             Way::At {
-                base: b,
-                length: l,
-                prefixes: q,
-            } => match pass(plan[STOPS + (j + 1)], bits, row, b, l, q) {
-                Way::Refused(e) => {
-                    return WalkRead::Refused(e);
-                }
-                Way::At {
-                    base: b2,
-                    length: l2,
-                    prefixes: q2,
-                } => {
-                    base = b2;
-                    length = l2;
-                    prefixes = q2;
-                    j += 2;
-                }
-            },
+                base: b2,
+                length: l2,
+                prefixes: q2,
+            } => {
+                b = b2;
+                l = l2;
+                q = q2;
+                j += 4;
+            }
         }
     }
     WalkRead::At {
-        position: base + length,
-        prefixes: prefixes,
+        position: b + l,
+        prefixes: q,
+    }
+}
+
+// From stop to stop, over the first `n` stops listed: those that are left over by fours, then four at a turn.
+fn follow(plan: &[usize; 131], n: usize, row: &[u8]) -> WalkRead
+    requires { ⌜ n ≤ 64 ⌝ }
+    ensures answers { λ r. ⌜ toldWalk r ≡ leaps (bitSet (now (row .entry))) (now (row .entry)) (map byBit (tabled (plannedStop (lent (now (plan .entry)))) n 0)) (place 0 0) ⌝ }
+    ensures small { λ r. ⌜ Small 549755813888 r ⌝ }
+{
+    let bits = bits_at(row, 0);
+    match pass_few(plan, n % 4, bits, row) {
+        Way::Refused(e) => WalkRead::Refused(e),
+        Way::At {
+            base,
+            length,
+            prefixes,
+        } => pass_rest(plan, n, bits, row, base, length, prefixes),
     }
 }
 
