@@ -194,7 +194,11 @@ module _ (row : Bytes) (f : ℕ → Stop) where
     pub leaps-stop : {c o : ℕ} {a : Input} → over-stops m j w ≡ bad c o a → over-stops n j w ≡ bad c o a
     leaps-stop p = leaps-split m k n j i w e h ∙ rw p refl
 
-  -- one alone
+  -- none, and one alone
+  pub leaps-done : {k : ℕ} (j : ℕ) (w : Place) → k ≡ 0 → over-stops k j w ≡ ok w
+  unfolding tabled leaps
+  leaps-done j w e = rw e refl
+
   pub leaps-one : (j : ℕ) (w : Place) → over-stops 1 j w ≡ passed (bitSet row) row (byBit (f j)) w
   unfolding tabled leaps
   leaps-one j w = go (passed (bitSet row) row (byBit (f j)) w)

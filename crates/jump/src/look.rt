@@ -265,7 +265,7 @@ fn pass_few(plan: &[usize; 131], n: usize, bits: u64, row: &[u8]) -> Way
     }
 }
 
-// From a place on the way over the other stops, four at a turn.
+// From a place on the way over the other stops, four at a turn. What is left is counted down: that takes one register less.
 fn pass_rest(
     plan: &[usize; 131],
     n: usize,
@@ -282,9 +282,9 @@ fn pass_rest(
     let mut b = base;
     let mut l = length;
     let mut q = prefixes;
-    let mut j = n % 4;
-    while j < n {
-        match pass_four(plan, j, bits, row, b, l, q) {
+    let mut left = n - n % 4;
+    while left > 0 {
+        match pass_four(plan, n - left, bits, row, b, l, q) {
             Way::Refused(e) => {
                 return WalkRead::Refused(e);
             }
@@ -296,7 +296,7 @@ fn pass_rest(
                 b = b2;
                 l = l2;
                 q = q2;
-                j += 4;
+                left -= 4;
             }
         }
     }
