@@ -265,7 +265,7 @@ fn pass_few(plan: &[usize; 131], n: usize, bits: u64, row: &[u8]) -> Way
     }
 }
 
-// From a place on the way over the other stops, four at a turn. What is left is counted down: that takes one register less.
+// From a place on the way over the other stops, four at a turn. What is left is counted down, which takes fewer registers.
 fn pass_rest(
     plan: &[usize; 131],
     n: usize,
