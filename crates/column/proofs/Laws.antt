@@ -6,6 +6,7 @@ use mathlib.Core.Bool.{Bool, true, false, true≢false}
 use mathlib.Core.Path.{_≡_, refl, sym, ap, _∙_}
 use mathlib.Core.Logic.{_⊎_, inl, inr, ⊎-elim, _↔_}
 use native.Mathlib.Omega.{arith, by-contra, not-le}
+use mir.Val.{boolByte}
 use lib.ListN.{length, take}
 use lib.Seq.{take-take}
 use lib.Dec.{leb, eqb}
@@ -224,17 +225,27 @@ module _ (most : ℕ) (even : Bool) (n : ℕ) where
   unfolding lengthErrorOf
   rule-over h = rw (lt-leb n most h)
 
-  pub rule-even : n ≤ most → even ≡ true → eqb (lengthErrorOf most even n) 0 ≡ eqb (n % 2) 0
-  unfolding lengthErrorOf
-  rule-even h e = rw (le-leb n most h, e) (go (eqb (n % 2) 0))
+  -- by the flag as a number
+  pub flag-odd : boolByte even * (n % 2) ≤ 1
+  flag-odd = go even
     where
-      go : (t : Bool) → eqb (pick t 0 14) 0 ≡ t
-      go true = refl
-      go false = refl
+      go : (e : Bool) → boolByte e * (n % 2) ≤ 1
+      go true = omega arith
+      go false = omega arith
 
-  pub rule-any : n ≤ most → even ≡ false → lengthErrorOf most even n ≡ 0
+  pub rule-under : n ≤ most → eqb (boolByte even * (n % 2)) 0 ≡ eqb (lengthErrorOf most even n) 0
   unfolding lengthErrorOf
-  rule-any h e = rw (le-leb n most h, e)
+  rule-under h = rw (le-leb n most h) (go even)
+    where
+      told : (t : Bool) → t ≡ eqb (pick t 0 14) 0
+      told true = refl
+      told false = refl
+
+      go : (e : Bool) → eqb (boolByte e * (n % 2)) 0 ≡ eqb (pick e (pick (eqb (n % 2) 0) 0 14) 0) 0
+      go true =
+          let z : boolByte true * (n % 2) ≡ n % 2 = omega arith in
+          ap (λ (k : ℕ). eqb k 0) z ∙ told (eqb (n % 2) 0)
+      go false = let z : boolByte false * (n % 2) ≡ 0 = omega arith in ap (λ (k : ℕ). eqb k 0) z
 
   -- what is allowed is no longer than the greatest length
   pub rule-most : lengthErrorOf most even n ≡ 0 → n ≤ most

@@ -19,17 +19,14 @@ pub enum LengthCheck {
     Refused(ErrorKind),
 }
 
-// Whether a length of so many bytes is allowed: it may reach `most`, and where `even` says so it must be even.
+// Whether a length of so many bytes is allowed: it may reach `most`, and where `even` says so it must be even. No branch depends on that.
 pub fn allows(most: usize, even: bool, size: usize) -> bool
     ensures { λ r. ⌜ r ≡ eqb (lengthErrorOf most even size) 0 ⌝ }
 {
     if most < size {
         return false;
     }
-    if even {
-        return size % 2 == 0;
-    }
-    true
+    (even as usize) * (size % 2) == 0
 }
 
 // The same as a check, with the error that such a length is.

@@ -25,13 +25,13 @@ use Rattle.walk.specs.Presence.{one}
 use Rattle.walk.specs.Rows.{Place, place}
 use Rattle.walk.specs.Leaps.{passed, leaps}
 use Rattle.walk.proofs.Leap.{span-long, error-long}
-use Rattle.row.specs.declared.rows.WalkRead.{WalkRead}
-use Rattle.row.specs.declared.rows.WalkRead.the-variants as walk
 use Rattle.plan.specs.declared.plan.Plan.{Plan}
 use Rattle.plan.specs.Packed.{beforeIn}
 use Rattle.plan.specs.Plans.{plannedWord, plannedColumn, plannedFirst}
+use Rattle.jump.specs.declared.look.Way.{Way}
+use Rattle.jump.specs.declared.look.Way.the-variants as way
 use Rattle.jump.specs.Jumps.{tabled, startsBefore, stopsGone, byBit, unsetFrom, unset}
-use Rattle.jump.specs.Lent.{Near, BitsOf, over}
+use Rattle.jump.specs.Lent.{Near, Behind, BitsOf, over}
 
 -- The first bits of a row as a number.
 
@@ -60,38 +60,50 @@ module _ (word : ℕ) (row : Bytes) (bits : ℕ) (b : BitsOf row bits) {n : ℕ}
 
   -- Past a stop of fixed width.
   pub passed-fixed :
-      (w : Place) {g s : ℕ} → g ≡ stopIn word .gap → s ≡ stopIn word .size → stopIn word .variable ≡ false →
-      ok (place (w .at + (g + s * n)) (w .prefixes)) ≡ passed (bitSet row) row (byBit (stopIn word)) w
+      (base length prefixes : ℕ) {g s : ℕ} → g ≡ stopIn word .gap → s ≡ stopIn word .size → stopIn word .variable ≡ false →
+      ok (place (base + g + s * n + length) prefixes) ≡ passed (bitSet row) row (byBit (stopIn word)) (place (base + length) prefixes)
   unfolding passed byBit spanAt spanError
-  passed-fixed w {g} {s} eg es v =
-      let z : w .at + (g + s * n) ≡ w .at + g + s * n = omega (arith) in
-      ap (λ (q : ℕ). ok (place q (w .prefixes))) z ∙ rw (stop-bit, eg, es, v) (go (bitSet row (stopIn word .bit)))
+  passed-fixed base length prefixes {g} {s} eg es v =
+      let z : base + g + s * n + length ≡ base + length + g + s * n = omega (arith) in
+      ap (λ (q : ℕ). ok (place q prefixes)) z ∙ rw (stop-bit, eg, es, v) (go (bitSet row (stopIn word .bit)))
     where
       go :
           (t : Bool) →
-          ok (place (w .at + stopIn word .gap + stopIn word .size * one t) (w .prefixes))
-          ≡ pick t (ok (place (w .at + stopIn word .gap + stopIn word .size) (w .prefixes + 0))) (ok (place (w .at + stopIn word .gap) (w .prefixes)))
+          ok (place (base + length + stopIn word .gap + stopIn word .size * one t) prefixes)
+          ≡ pick t (ok (place (base + length + stopIn word .gap + stopIn word .size) (prefixes + 0))) (ok (place (base + length + stopIn word .gap) prefixes))
       go true =
           let x : stopIn word .size * 1 ≡ stopIn word .size = omega arith in
-          let y : w .prefixes + 0 ≡ w .prefixes = omega arith in
+          let y : prefixes + 0 ≡ prefixes = omega arith in
           rw (x, y) refl
-      go false = let x : w .at + stopIn word .gap + stopIn word .size * 0 ≡ w .at + stopIn word .gap = omega arith in rw x refl
+      go false = let x : base + length + stopIn word .gap + stopIn word .size * 0 ≡ base + length + stopIn word .gap = omega arith in rw x refl
 
 pub there-always : (word : ℕ) (row : Bytes) {t : Bool} → t ≡ stopIn word .free → t ≡ false → true ≡ there (bitSet row) (stopIn word)
 there-always word row f h = rw (← f, h) refl
 
 -- Past a stop of variable length.
 
-module _ (word : ℕ) (row : Bytes) (w : Place) {g : ℕ} (eg : g ≡ stopIn word .gap) (v : stopIn word .variable ≡ true) where
+pub prefix-long : (word : ℕ) → stopIn word .long ≡ true → prefixOf (stopIn word) ≡ 4
+prefix-long word l = rw l refl
+
+pub prefix-short : (word : ℕ) → stopIn word .long ≡ false → prefixOf (stopIn word) ≡ 1
+prefix-short word l = rw l refl
+
+module _
+    (word : ℕ) (row : Bytes) (base length prefixes : ℕ) {g : ℕ} (eg : g ≡ stopIn word .gap) (v : stopIn word .variable ≡ true) where
+  behind : base + g + length ≡ base + length + stopIn word .gap
+  behind = omega (arith, eg)
+
   pub passed-absent :
-      there (bitSet row) (stopIn word) ≡ false → ok (place (w .at + g) (w .prefixes)) ≡ passed (bitSet row) row (byBit (stopIn word)) w
+      there (bitSet row) (stopIn word) ≡ false →
+      ok (place (base + g + length) prefixes) ≡ passed (bitSet row) row (byBit (stopIn word)) (place (base + length) prefixes)
   unfolding passed byBit
-  passed-absent h = rw (eg, v, h) refl
+  passed-absent h = rw (behind, v, h) refl
 
   pub passed-there :
-      there (bitSet row) (stopIn word) ≡ true → over (stopIn word) row (w .at + g) (w .prefixes) ≡ passed (bitSet row) row (byBit (stopIn word)) w
+      there (bitSet row) (stopIn word) ≡ true →
+      over (stopIn word) row (base + g + length) prefixes ≡ passed (bitSet row) row (byBit (stopIn word)) (place (base + length) prefixes)
   unfolding passed byBit spanAt spanError lengthAt
-  passed-there h = rw (eg, v, h) refl
+  passed-there h = rw (behind, v, h) refl
 
 -- by its length
 module _
@@ -103,15 +115,15 @@ module _
   pub over-refused : 0 < e → bad e at input.Single ≡ over t row at prefixes
   over-refused p = rw (error-told, ne-eqb e 0 (λ z. omega (arith, z))) refl
 
-  pub over-past : {p : ℕ} → p ≡ prefixOf t → e ≡ 0 → ok (place (at + p + l) (prefixes + 1)) ≡ over t row at prefixes
+  pub over-past : {p : ℕ} → p ≡ at + prefixOf t → e ≡ 0 → ok (place (p + l) (prefixes + 1)) ≡ over t row at prefixes
   over-past {p} ep z =
-      let q : at + (prefixOf t + lengthAt t row at) ≡ at + p + l = omega (arith, el, ep) in
+      let q : at + (prefixOf t + lengthAt t row at) ≡ p + l = omega (arith, el, ep) in
       rw (error-told, z, span-long t row at v, q, v) refl
 
 -- a bound may be greater
-pub near-more : (r : WalkRead) (m n prefixes : ℕ) → m ≤ n → Near m prefixes r → Near n prefixes r
-near-more (walk.At position count) m n prefixes h (a, b) = (omega arith, b)
-near-more (walk.Refused e) m n prefixes h a = tt
+pub near-more : (r : Way) (m n prefixes : ℕ) → m ≤ n → Near m prefixes r → Near n prefixes r
+near-more (way.At base length count) m n prefixes h (a, b) = (omega arith, b)
+near-more (way.Refused e) m n prefixes h a = tt
 
 -- a size, or nothing
 pub times-one : (w o : ℕ) → o ≤ 1 → w * o ≤ w
@@ -146,6 +158,64 @@ module _ (row : Bytes) (n : ℕ) (f : ℕ → Stop) (j : ℕ) (w : Place) where
     pub leaps-refused : {e o : ℕ} {i : Input} → passed (bitSet row) row (byBit (f j)) w ≡ bad e o i → leaps (bitSet row) row left w ≡ bad e o i
     unfolding leaps
     leaps-refused e = ap (λ (l : List Stop). leaps (bitSet row) row l w) one-more ∙ rw e refl
+
+-- All of them.
+pub leaps-all :
+    (row : Bytes) (n : ℕ) (f : ℕ → Stop) (w : Place) →
+    leaps (bitSet row) row (map byBit (tabled f n 0)) w ≡ leaps (bitSet row) row (map byBit (tabled f (n - 0) 0)) w
+leaps-all row n f w = let z : n ≡ n - 0 = omega arith in ap (λ (m : ℕ). leaps (bitSet row) row (map byBit (tabled f m 0)) w) z
+
+-- Some of them, and then those behind.
+module _ (row : Bytes) (f : ℕ → Stop) where
+  abbrev over-stops : (n j : ℕ) → Place → Read Place
+  over-stops n j w = leaps (bitSet row) row (map byBit (tabled f n j)) w
+
+  leaps-split :
+      (m k n j i : ℕ) (w : Place) → n ≡ m + k → i ≡ j + m → over-stops n j w ≡ over-stops m j w >>= (λ (v : Place). over-stops k i v)
+  unfolding tabled leaps
+  leaps-split zero k n j i w e h =
+      let z : n ≡ k = omega arith in
+      let y : i ≡ j = omega arith in
+      rw (z, y) refl
+  leaps-split (suc m) k n j i w e h =
+      let z : n ≡ suc (m + k) = omega arith in
+      rw z (go (λ v. leaps-split m k (m + k) (suc j) i v refl (omega arith)) (passed (bitSet row) row (byBit (f j)) w))
+    where
+      go :
+          ((v : Place) → over-stops (m + k) (suc j) v ≡ over-stops m (suc j) v >>= (λ (u : Place). over-stops k i u)) → (x : Read Place) →
+          x >>= (λ (v : Place). over-stops (m + k) (suc j) v) ≡ (x >>= (λ (v : Place). over-stops m (suc j) v)) >>= (λ (u : Place). over-stops k i u)
+      go same (ok v) = same v
+      go same (bad c o about) = refl
+
+  module _ (m k : ℕ) {n : ℕ} (j : ℕ) {i : ℕ} (w : Place) (e : n ≡ m + k) (h : i ≡ j + m) where
+    pub leaps-on : {v : Place} → over-stops m j w ≡ ok v → over-stops n j w ≡ over-stops k i v
+    leaps-on p = leaps-split m k n j i w e h ∙ rw p refl
+
+    pub leaps-stop : {c o : ℕ} {a : Input} → over-stops m j w ≡ bad c o a → over-stops n j w ≡ bad c o a
+    leaps-stop p = leaps-split m k n j i w e h ∙ rw p refl
+
+  -- none, and one alone
+  pub leaps-done : {k : ℕ} (j : ℕ) (w : Place) → k ≡ 0 → over-stops k j w ≡ ok w
+  unfolding tabled leaps
+  leaps-done j w e = rw e refl
+
+  pub leaps-one : (j : ℕ) (w : Place) → over-stops 1 j w ≡ passed (bitSet row) row (byBit (f j)) w
+  unfolding tabled leaps
+  leaps-one j w = go (passed (bitSet row) row (byBit (f j)) w)
+    where
+      go : (x : Read Place) → x >>= (λ (v : Place). ok v) ≡ x
+      go (ok v) = refl
+      go (bad c o about) = refl
+
+-- a step more
+pub near-behind :
+    (r : Way) (base length prefixes j : ℕ) → base + length ≤ 4295032836 * j → prefixes ≤ j → Near (base + length + 4295032836) prefixes r → Behind (j + 1) r
+near-behind (way.At b l q) base length prefixes j h i (m, n) = (omega arith, omega arith)
+near-behind (way.Refused e) base length prefixes j h i m = tt
+
+pub behind-at : (r : Way) {i j : ℕ} → i ≡ j → Behind i r → Behind j r
+behind-at (way.At b l q) e (h, i) = (omega arith, omega arith)
+behind-at (way.Refused r) e h = tt
 
 -- How many stops there are.
 

@@ -1,10 +1,11 @@
 -- Inner: what contracts of inner functions cite: bounds; the first checks.
 -- Assumes nothing.
-use Prim.Native.Nat.{ℕ, _+_, _≤_, _<_}
+use Prim.Native.Nat.{ℕ, _+_, _*_, _≤_, _<_}
 use mathlib.Core.Path.{_≡_}
+use mathlib.Core.List.{map}
 use lib.Dec.{eqb}
 use Rattle.wire.specs.declared.error.Input.the-variants as input
-use Rattle.wire.specs.Read.{Bytes, Read, ok, bad, _>>=_, pick, about, sized}
+use Rattle.wire.specs.Read.{Bytes, Read, ok, bad, refused, _>>=_, pick, about, sized}
 use Rattle.wire.specs.Bits.{bitSet}
 use Rattle.maps.specs.Maps.{topBit}
 use Rattle.column.specs.declared.field.Field.{Field}
@@ -14,12 +15,30 @@ use Rattle.walk.specs.Rows.{Place, place, reached, Answer, field}
 use Rattle.row.specs.declared.rows.WalkRead.{WalkRead}
 use Rattle.row.specs.declared.rows.WalkRead.the-variants as walk
 use Rattle.plan.specs.declared.plan.Plan.{Plan}
-use Rattle.plan.specs.Plans.{plannedKnown}
+use Rattle.jump.specs.declared.look.Way.{Way}
+use Rattle.jump.specs.declared.look.Way.the-variants as way
+use Rattle.walk.specs.Leaps.{leaps}
+use Rattle.plan.specs.Plans.{plannedKnown, plannedStop}
+use Rattle.jump.specs.Jumps.{tabled, byBit}
+
+-- Where a way over stops has come to.
+abbrev pub toldWay : Way → Read Place
+toldWay (way.At base length prefixes) = ok (place (base + length) prefixes)
+toldWay (way.Refused e) = refused e
 
 -- A step of the way ends no further than this, with one prefix more at most: what keeps its numbers small.
-abbrev pub Near : (most prefixes : ℕ) → WalkRead → Type 0
-Near most prefixes (walk.At position count) = (position ≤ most) × (count ≤ prefixes + 1)
-Near most prefixes (walk.Refused e) = Unit {0}
+abbrev pub Near : (most prefixes : ℕ) → Way → Type 0
+Near most prefixes (way.At base length count) = (base + length ≤ most) × (count ≤ prefixes + 1)
+Near most prefixes (way.Refused e) = Unit {0}
+
+-- Behind j stops a way has come no further than this.
+abbrev pub Behind : (j : ℕ) → Way → Type 0
+Behind j (way.At base length count) = (base + length ≤ 4295032836 * j) × (count ≤ j)
+Behind j (way.Refused e) = Unit {0}
+
+-- over n of the stops listed, from number j on
+abbrev pub wayOver : Plan → Bytes → (n j : ℕ) → Place → Read Place
+wayOver p row n j w = leaps (bitSet row) row (map byBit (tabled (plannedStop p) n j)) w
 
 -- A way has come no further than this.
 abbrev pub Small : (most : ℕ) → WalkRead → Type 0

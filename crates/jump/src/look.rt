@@ -2,7 +2,7 @@
 ghost use mathlib.Core.Path.{_≡_};
 ghost use mathlib.Core.Bool.{true, false};
 ghost use mathlib.Core.List.{map};
-ghost use Prim.Native.Nat.{_≤_, _<_, _+_};
+ghost use Prim.Native.Nat.{_≤_, _<_, _+_, _*_, _-_, _%_};
 ghost use lib.ListN.{length};
 ghost use lib.Dec.{eqb};
 ghost use Rattle.wire.specs.Read.{pick, toldMatch, about};
@@ -13,7 +13,7 @@ ghost use Rattle.wire.specs.declared.error.Input.the-variants as input;
 ghost use Rattle.wire.specs.declared.integer.IntRead.the-variants as int;
 ghost use Rattle.column.specs.Columns.{isVariable};
 ghost use Rattle.column.specs.Fields.{variableAt};
-ghost use Rattle.column.specs.Stops.{stopIn, there};
+ghost use Rattle.column.specs.Stops.{stopIn, prefixOf, lengthAt, there};
 ghost use Rattle.walk.specs.Rows.{place};
 ghost use Rattle.walk.specs.Leaps.{passed, leaps};
 ghost use Rattle.row.specs.declared.rows.LookUp.the-variants as look;
@@ -22,7 +22,7 @@ ghost use Rattle.row.specs.Told.{toldWalk, toldLookUp};
 ghost use Rattle.plan.specs.Plans.{plannedStop, lent};
 ghost use Rattle.jump.specs.Jumps.{tabled, startsBefore, stopsGone, byBit, fieldIn, jumped, unset, plannedOpen, plannedAnswer, plannedRow};
 ghost use Rattle.jump.specs.Handles.{openedRow, startOf};
-ghost use Rattle.jump.specs.Lent.{Near, Small, Lies, BitsOf, over, foundIn, asked};
+ghost use Rattle.jump.specs.Lent.{toldWay, wayOver, Near, Behind, Small, Lies, BitsOf, over, foundIn, asked};
 use column::column::Column;
 use column::column::LengthCheck;
 use column::column::check_length;
@@ -49,10 +49,12 @@ use stops::stop;
 use stops::stop::bit_on;
 use stops::stop::is_even_in;
 use stops::stop::is_free_in;
+use stops::stop::is_long_in;
 use stops::stop::is_variable_in;
-use stops::stop::length_at;
+use stops::stop::long_before;
 use stops::stop::most_in;
 use stops::stop::prefix_in;
+use stops::stop::short_before;
 use stops::stop::size_in;
 use wire::LIMIT;
 use wire::bits::is_set;
@@ -61,7 +63,6 @@ use wire::error::Error;
 use wire::error::ErrorKind;
 use wire::error::Input;
 use wire::integer::IntRead;
-use wire::lesser;
 
 // The start of a row that does not open: more than any row has.
 const NO_START: usize = 18_446_744_073_709_551_615;
@@ -77,76 +78,248 @@ fn is_there(word: usize, bits: u64, row: &[u8]) -> bool
     true
 }
 
+// A way over stops. It has come to `base` and `length` together: the last length read stands apart, so that from one prefix to the next
+// there is one sum only.
+enum Way {
+    At {
+        base: usize,
+        length: usize,
+        prefixes: usize,
+    },
+    Refused(Error),
+}
+
+// A prefix: where it ends, and the length that it says.
+struct Prefix {
+    end: usize,
+    length: usize,
+}
+
+// The prefix at `at` of a field of variable length.
+fn prefix_at(word: usize, row: &[u8], at: usize) -> Prefix
+    requires { ⌜ at ≤ 1099511627776 ⌝ }
+    ensures { λ r. ⌜ (r .end ≡ at + prefixOf (stopIn word)) × (r .length ≡ lengthAt (stopIn word) (now (row .entry)) at) × (r .end ≤ at + 4) ⌝ }
+{
+    if is_long_in(word) {
+        let end = at + prefix_in(word);
+        return Prefix {
+            end,
+            length: long_before(row, end),
+        };
+    }
+    let end = at + prefix_in(word);
+    Prefix {
+        end,
+        length: short_before(row, end),
+    }
+}
+
 // Past a field of variable length whose prefix stands at `at`, after so many prefixes.
-fn hop(word: usize, row: &[u8], at: usize, prefixes: usize) -> WalkRead
+fn hop(word: usize, row: &[u8], at: usize, prefixes: usize) -> Way
     requires { ⌜ (stopIn word .variable ≡ true) × (at ≤ 1099511627776) × (prefixes ≤ 64) ⌝ }
-    ensures answers { λ r. ⌜ toldWalk r ≡ over (stopIn word) (now (row .entry)) at prefixes ⌝ }
+    ensures answers { λ r. ⌜ toldWay r ≡ over (stopIn word) (now (row .entry)) at prefixes ⌝ }
     ensures near { λ r. ⌜ Near (at + 4294967300) prefixes r ⌝ }
 {
-    let length = length_at(word, row, at);
-    match check_length(most_in(word), is_even_in(word), length) {
-        LengthCheck::Refused(kind) => WalkRead::Refused(Error {
+    let prefix = prefix_at(word, row, at);
+    match check_length(most_in(word), is_even_in(word), prefix.length) {
+        LengthCheck::Refused(kind) => Way::Refused(Error {
             kind,
             offset: at,
             input: Input::Single,
         }),
-        LengthCheck::Allowed => WalkRead::At {
-            position: at + prefix_in(word) + length,
+        LengthCheck::Allowed => Way::At {
+            base: prefix.end,
+            length: prefix.length,
             prefixes: prefixes + 1,
         },
     }
 }
 
-// Past the stop that a plan holds as this number, in a row with these bits, from a position with so many prefixes.
-fn pass(word: usize, bits: u64, row: &[u8], at: usize, prefixes: usize) -> WalkRead
-    requires { ⌜ BitsOf (now row) bits × (at ≤ 549755813888) × (prefixes ≤ 64) ⌝ }
-    ensures answers { λ r. ⌜ toldWalk r ≡ passed (bitSet (now (row .entry))) (now (row .entry)) (byBit (stopIn word)) (place at prefixes) ⌝ }
-    ensures near { λ r. ⌜ Near (at + 4295032836) prefixes r ⌝ }
+// Past the stop that a plan holds as this number, in a row with these bits, from a place on the way with so many prefixes.
+fn pass(word: usize, bits: u64, row: &[u8], base: usize, length: usize, prefixes: usize) -> Way
+    requires { ⌜ BitsOf (now row) bits × (base + length ≤ 549755813888) × (prefixes ≤ 64) ⌝ }
+    ensures answers { λ r. ⌜ toldWay r ≡ passed (bitSet (now (row .entry))) (now (row .entry)) (byBit (stopIn word)) (place (base + length) prefixes) ⌝ }
+    ensures near { λ r. ⌜ Near (base + length + 4295032836) prefixes r ⌝ }
 {
-    let gap = stop::gap_in(word);
+    let at = base + stop::gap_in(word);
     if is_variable_in(word) {
         if is_there(word, bits, row) {
-            return hop(word, row, at + gap, prefixes);
+            return hop(word, row, at + length, prefixes);
         }
-        return WalkRead::At {
-            position: at + gap,
-            prefixes: prefixes,
+        return Way::At {
+            base: at,
+            length,
+            prefixes,
         };
     }
-    WalkRead::At {
-        position: at + (gap + size_in(word) * bit_on(word, bits)),
-        prefixes: prefixes,
+    Way::At {
+        base: at + size_in(word) * bit_on(word, bits),
+        length,
+        prefixes,
+    }
+}
+
+// Past stop `j` and the one behind it, where stop `j` is the next on the way.
+fn pass_two(
+    plan: &[usize; 131],
+    j: usize,
+    bits: u64,
+    row: &[u8],
+    base: usize,
+    length: usize,
+    prefixes: usize,
+) -> Way
+    requires { ⌜ BitsOf (now row) bits × (j + 2 ≤ 64) × (base + length ≤ 4295032836 * j) × (prefixes ≤ j) ⌝ }
+    ensures answers { λ r. ⌜ toldWay r ≡ wayOver (lent (now (plan .entry))) (now (row .entry)) 2 j (place (base + length) prefixes) ⌝ }
+    ensures behind { λ r. ⌜ Behind (j + 2) r ⌝ }
+{
+    match pass(plan[STOPS + j], bits, row, base, length, prefixes) {
+        Way::Refused(e) => Way::Refused(e),
+        Way::At {
+            base: b,
+            length: l,
+            prefixes: q,
+        } => pass(plan[STOPS + (j + 1)], bits, row, b, l, q),
+    }
+}
+
+// Past three stops.
+fn pass_three(
+    plan: &[usize; 131],
+    j: usize,
+    bits: u64,
+    row: &[u8],
+    base: usize,
+    length: usize,
+    prefixes: usize,
+) -> Way
+    requires { ⌜ BitsOf (now row) bits × (j + 3 ≤ 64) × (base + length ≤ 4295032836 * j) × (prefixes ≤ j) ⌝ }
+    ensures answers { λ r. ⌜ toldWay r ≡ wayOver (lent (now (plan .entry))) (now (row .entry)) 3 j (place (base + length) prefixes) ⌝ }
+    ensures behind { λ r. ⌜ Behind (j + 3) r ⌝ }
+{
+    match pass(plan[STOPS + j], bits, row, base, length, prefixes) {
+        Way::Refused(e) => Way::Refused(e),
+        Way::At {
+            base: b,
+            length: l,
+            prefixes: q,
+        } => pass_two(plan, j + 1, bits, row, b, l, q),
+    }
+}
+
+// Past four stops.
+fn pass_four(
+    plan: &[usize; 131],
+    j: usize,
+    bits: u64,
+    row: &[u8],
+    base: usize,
+    length: usize,
+    prefixes: usize,
+) -> Way
+    requires { ⌜ BitsOf (now row) bits × (j + 4 ≤ 64) × (base + length ≤ 4295032836 * j) × (prefixes ≤ j) ⌝ }
+    ensures answers { λ r. ⌜ toldWay r ≡ wayOver (lent (now (plan .entry))) (now (row .entry)) 4 j (place (base + length) prefixes) ⌝ }
+    ensures behind { λ r. ⌜ Behind (j + 4) r ⌝ }
+{
+    match pass(plan[STOPS + j], bits, row, base, length, prefixes) {
+        Way::Refused(e) => Way::Refused(e),
+        Way::At {
+            base: b,
+            length: l,
+            prefixes: q,
+        } => pass_three(plan, j + 1, bits, row, b, l, q),
     }
 }
 
 // From stop to stop, over the first `n` stops listed.
+fn pass_few(plan: &[usize; 131], n: usize, bits: u64, row: &[u8]) -> Way
+    requires { ⌜ BitsOf (now row) bits × (n ≤ 64) ⌝ }
+    ensures answers { λ r. ⌜ toldWay r ≡ wayOver (lent (now (plan .entry))) (now (row .entry)) n 0 (place 0 0) ⌝ }
+    ensures behind { λ r. ⌜ Behind n r ⌝ }
+{
+    let mut base = 0;
+    let mut length = 0;
+    let mut prefixes = 0;
+    let mut j = 0;
+    while j < n {
+        match pass(plan[STOPS + j], bits, row, base, length, prefixes) {
+            Way::Refused(e) => {
+                return Way::Refused(e);
+            }
+            Way::At {
+                base: b,
+                length: l,
+                prefixes: q,
+            } => {
+                base = b;
+                length = l;
+                prefixes = q;
+                j += 1;
+            }
+        }
+    }
+    Way::At {
+        base,
+        length,
+        prefixes,
+    }
+}
+
+// From a place on the way over the other stops, four at a turn. What is left is counted down, which takes fewer registers.
+fn pass_rest(
+    plan: &[usize; 131],
+    n: usize,
+    bits: u64,
+    row: &[u8],
+    base: usize,
+    length: usize,
+    prefixes: usize,
+) -> WalkRead
+    requires { ⌜ BitsOf (now row) bits × (n ≤ 64) × (base + length ≤ 4295032836 * (n % 4)) × (prefixes ≤ n % 4) ⌝ }
+    ensures answers { λ r. ⌜ toldWalk r ≡ wayOver (lent (now (plan .entry))) (now (row .entry)) (n - n % 4) (n % 4) (place (base + length) prefixes) ⌝ }
+    ensures small { λ r. ⌜ Small 549755813888 r ⌝ }
+{
+    let mut b = base;
+    let mut l = length;
+    let mut q = prefixes;
+    let mut left = n - n % 4;
+    while left > 0 {
+        match pass_four(plan, n - left, bits, row, b, l, q) {
+            Way::Refused(e) => {
+                return WalkRead::Refused(e);
+            }
+            Way::At {
+                base: b2,
+                length: l2,
+                prefixes: q2,
+            } => {
+                b = b2;
+                l = l2;
+                q = q2;
+                left -= 4;
+            }
+        }
+    }
+    WalkRead::At {
+        position: b + l,
+        prefixes: q,
+    }
+}
+
+// From stop to stop, over the first `n` stops listed: those that are left over by fours, then four at a turn.
 fn follow(plan: &[usize; 131], n: usize, row: &[u8]) -> WalkRead
     requires { ⌜ n ≤ 64 ⌝ }
     ensures answers { λ r. ⌜ toldWalk r ≡ leaps (bitSet (now (row .entry))) (now (row .entry)) (map byBit (tabled (plannedStop (lent (now (plan .entry)))) n 0)) (place 0 0) ⌝ }
     ensures small { λ r. ⌜ Small 549755813888 r ⌝ }
 {
     let bits = bits_at(row, 0);
-    let mut at = 0;
-    let mut prefixes = 0;
-    let mut j = 0;
-    while j < n {
-        match pass(plan[STOPS + j], bits, row, at, prefixes) {
-            WalkRead::Refused(e) => {
-                return WalkRead::Refused(e);
-            }
-            WalkRead::At {
-                position: p,
-                prefixes: q,
-            } => {
-                at = p;
-                prefixes = q;
-                j += 1;
-            }
-        }
-    }
-    WalkRead::At {
-        position: at,
-        prefixes: prefixes,
+    match pass_few(plan, n % 4, bits, row) {
+        Way::Refused(e) => WalkRead::Refused(e),
+        Way::At {
+            base,
+            length,
+            prefixes,
+        } => pass_rest(plan, n, bits, row, base, length, prefixes),
     }
 }
 
@@ -328,6 +501,13 @@ fn open_map(plan: &[usize; 131], row: &[u8]) -> IntRead
     }
 }
 
+// The same, behind a copy of the row's place and length: it is made where this is called, and not on the way that opens at once.
+fn open_slowly(plan: &[usize; 131], row: &[u8]) -> IntRead
+    ensures { λ r. ⌜ toldInt r ≡ plannedOpen (lent (now (plan .entry))) (now (row .entry)) ⌝ }
+{
+    open_map(plan, row)
+}
+
 // The same, at once where a plan has no nullable chapter, as most have none.
 fn open_plain(plan: &[usize; 131], row: &[u8]) -> IntRead
     ensures { λ r. ⌜ toldInt r ≡ plannedOpen (lent (now (plan .entry))) (now (row .entry)) ⌝ }
@@ -337,7 +517,7 @@ fn open_plain(plan: &[usize; 131], row: &[u8]) -> IntRead
             return IntRead::Int(plan[MAP]);
         }
     }
-    open_map(plan, row)
+    open_slowly(plan, row)
 }
 
 // The same error, about the row, of a row that does not open.
@@ -363,14 +543,16 @@ fn check_asked(plan: &[usize; 131], row: &[u8], k: usize) -> Matched
             input: Input::Row,
         });
     }
-    if k >= lesser(count_in(plan[COUNTS]), 64) {
-        return Matched::Refused(Error {
-            kind: ErrorKind::Missing,
-            offset: 0,
-            input: Input::Column,
-        });
+    if k < 64 {
+        if k < count_in(plan[COUNTS]) {
+            return Matched::Same;
+        }
     }
-    Matched::Same
+    Matched::Refused(Error {
+        kind: ErrorKind::Missing,
+        offset: 0,
+        input: Input::Column,
+    })
 }
 
 // Column `k` of a row, by a plan whose numbers are lent.

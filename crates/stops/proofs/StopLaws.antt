@@ -149,3 +149,15 @@ module _ (word : ℕ) (s : Bytes) (p : ℕ) where
   pub short-whole : stopIn word .long ≡ false → p < length s → lengthAt (stopIn word) s p ≡ getD s p 0
   unfolding lengthAt
   short-whole l h = rw (l, le-leb (p + 1) (length s) (omega arith)) (omega (arith, int-suc s p 0 h, int-zero s (p + 1)))
+
+  -- where the prefix ends is known
+  module _ {end r : ℕ} where
+    pub long-before : stopIn word .long ≡ true → end ≡ p + 4 → end ≤ length s → r ≡ intAt s (end - 4) 4 → r ≡ lengthAt (stopIn word) s p
+    long-before l e h t =
+        let z : end - 4 ≡ p = omega arith in
+        t ∙ ap (λ (q : ℕ). intAt s q 4) z ∙ sym (long-whole l (omega arith))
+
+    pub short-before : stopIn word .long ≡ false → end ≡ p + 1 → end ≤ length s → r ≡ getD s (end - 1) 0 → r ≡ lengthAt (stopIn word) s p
+    short-before l e h t =
+        let z : end - 1 ≡ p = omega arith in
+        t ∙ ap (λ (q : ℕ). getD s q 0) z ∙ sym (short-whole l (omega arith))

@@ -1,6 +1,7 @@
 // Stops in one number: what is needed to go over a column whose field depends on the row, made from the column and read again.
 ghost use mathlib.Core.Path.{_≡_};
-ghost use Prim.Native.Nat.{_+_, _-_, _%_, _≤_, _<_};
+ghost use mathlib.Core.Bool.{true, false};
+ghost use Prim.Native.Nat.{ℕ, _+_, _-_, _%_, _≤_, _<_};
 ghost use lib.ListN.{length};
 ghost use Rattle.wire.specs.Read.{pick};
 ghost use Rattle.wire.specs.Integers.{intAt};
@@ -163,4 +164,30 @@ pub fn length_at(word: usize, s: &[u8], at: usize) -> usize
         return 0;
     }
     wide(s[at])
+}
+
+// The length in the four bytes that end at `end`; 0 where they are not there.
+pub fn long_before(s: &[u8], end: usize) -> usize
+    ensures { λ r. ⌜ ((word at : ℕ) → stopIn word .long ≡ true → end ≡ at + 4 → r ≡ lengthAt (stopIn word) (now (s .entry)) at) ⌝ }
+{
+    if s.len() < end {
+        return 0;
+    }
+    if end < 4 {
+        return 0;
+    }
+    four(s, end - 4)
+}
+
+// The length in the byte that ends at `end`; 0 where it is not there.
+pub fn short_before(s: &[u8], end: usize) -> usize
+    ensures { λ r. ⌜ ((word at : ℕ) → stopIn word .long ≡ false → end ≡ at + 1 → r ≡ lengthAt (stopIn word) (now (s .entry)) at) ⌝ }
+{
+    if s.len() < end {
+        return 0;
+    }
+    if end < 1 {
+        return 0;
+    }
+    wide(s[end - 1])
 }

@@ -1,10 +1,11 @@
--- The branches are the tests of the rule.
+-- By the greatest length, then by the flag.
 -- Assumes nothing.
 use Prim.Native.Nat.{ℕ}
 use mathlib.Core.Path.{sym, ap}
 use native.Mathlib.Omega.{arith}
 use lib.Dec.{eqb}
-use Rattle.column.proofs.Laws.{rule-over, rule-even, rule-any}
+use Rattle.column.proofs.Laws.{rule-over, flag-odd, rule-under}
+use borrow.Author.Needs.{needs}
 use Rattle.column.proofs.column.allows.Statement.{statement}
 use Rattle.column.proofs.column.allows.Tie as tie
 
@@ -13,5 +14,6 @@ allows-spec =
     tie.close
     (tie.spec
     (λ c. ap (λ (k : ℕ). eqb k 0) (sym (rule-over _ _ _ (omega arith))))
-    (λ c. sym (rule-even _ _ _ (omega arith) (c .if2 .taken)))
-    (λ c. ap (λ (k : ℕ). eqb k 0) (sym (rule-any _ _ _ (omega arith) (c .if2 .left)))))
+    (λ c. search needs)
+    (λ c. omega (arith, flag-odd (c .before .args .most) (c .before .args .even) (c .before .args .size)))
+    (λ c. rule-under _ _ _ (omega arith)))
