@@ -1,6 +1,6 @@
 -- The ways out of calls with a schema file.
 -- Assumes nothing.
-use Prim.Native.Nat.{ℕ, zero, suc, _≤_, _<_}
+use Prim.Native.Nat.{ℕ, zero, suc, _≤_, _<_, min}
 use mathlib.Core.List.{List, [], map}
 use mathlib.Core.Path.{_≡_, refl, sym, ap, _∙_}
 use native.Mathlib.Omega.{arith}
@@ -14,19 +14,22 @@ use Rattle.wire.proofs.Pieces.{bad-ok, bind-ok, check-ok, about-ok, ok-ok}
 use Rattle.column.specs.declared.column.Column.{Column}
 use Rattle.column.specs.declared.columns.Columns.{Columns}
 use Rattle.column.specs.Layout.{mostColumns, layout, columnsIn}
+use Rattle.column.specs.Packed.{packedFrom}
 use Rattle.questions.specs.declared.file.Found.{Found}
 use Rattle.questions.specs.declared.file.Found.the-variants as found
 use Rattle.questions.specs.declared.file.ColumnsRead.{ColumnsRead}
+use Rattle.questions.specs.declared.file.SlotsRead.{SlotsRead}
+use Rattle.questions.specs.declared.file.SlotsRead.the-variants as slots
 use Rattle.tree.specs.Reader.{fileOf}
 use Rattle.tree.specs.Schemas.{Schema, schema, asColumn, schemasOf, readSchemas, schemaAt}
-use Rattle.questions.specs.Questions.{withSchema, Selected, selected, selectedOf, columnsOf, toldFound}
+use Rattle.questions.specs.Questions.{withSchema, Selected, selected, selectedOf, columnsOf, toldFound, columnListOf, toldSlots}
 use Rattle.tree.proofs.SchemaLists.{EntriesRange, SchemaRange, SchemasRange, no-schema, a-schema, schemas-range}
 use Rattle.tree.proofs.Theorem.{file-of-iff}
 use Rattle.questions.proofs.Questions.{with-alone, answer-by}
 use Rattle.walk.specs.Rows.{lookUp, lookUpRow}
 use Rattle.walk.specs.Updates.{current, currentRow}
 use Rattle.walk.proofs.Arrays.{columns-laid}
-use Rattle.adtg.specs.InSchema.{both, inSchema, columnsBeside, Beside}
+use Rattle.adtg.specs.InSchema.{both, inSchema, columnsBeside, Beside, SlotsBeside}
 use Rattle.adtg.specs.Rows.{lookUpIn}
 use Rattle.adtg.specs.Updates.{sizesOf, currentIn}
 
@@ -90,6 +93,58 @@ module _ (file : Bytes) (sizes : Read (Unit {0})) (number : ℕ) where
   unfolding columnsOf
   beside-sized h = columns-by ∙ rw h (sym (answer-by file number (λ schemas columns. ok (layout (map asColumn columns)))))
 
+  -- the columns in a list
+  list-by : inSchema file sizes number (λ columns. ok columns) ≡ (selection >>= λ x. ok (map asColumn (x .columns)))
+  list-by = by-selection (λ columns. ok columns)
+
+  -- a size that is not allowed
+  pub slots-large : (e : Error) → allSizes file sizes ≡ refused e → inSchema file sizes number (λ columns. ok columns) ≡ refused e
+  slots-large e h = list-by ∙ rw h refl
+
+  -- all sizes are allowed
+  pub slots-sized : allSizes file sizes ≡ ok tt → inSchema file sizes number (λ columns. ok columns) ≡ columnListOf file number
+  unfolding columnListOf
+  slots-sized h = list-by ∙ rw h (sym (answer-by file number (λ schemas columns. ok (map asColumn columns))))
+
+-- What was read into slots says the answer to every question.
+module _ {file : Bytes} {sizes : Read (Unit {0})} {number : ℕ} {s : List ℕ} {r : SlotsRead} (told : SlotsBeside file sizes number s r) {A : Type 0} (ask : List Column → Read A) where
+  -- the selection, by what was found
+  by-slots : (f : SlotsRead) → r ≡ f → (selection file sizes number >>= λ x. ok (map asColumn (x .columns))) ≡ toldSlots f s
+  by-slots f h = sym (list-by file sizes number) ∙ sym (told .answers) ∙ ap (λ (f : SlotsRead). toldSlots f s) h
+
+  -- where the columns are refused, so is the question
+  pub slots-refused : {e : Error} → r ≡ slots.Refused e → inSchema file sizes number ask ≡ refused e
+  slots-refused {e} h = by-selection file sizes number ask ∙ go (selection file sizes number) (by-slots (slots.Refused e) h)
+    where
+      go : (s : Read Selected) → (s >>= λ x. ok (map asColumn (x .columns))) ≡ refused e → (s >>= λ x. ask (map asColumn (x .columns))) ≡ refused e
+      go (ok x) q = absurd (bad-ok (sym q))
+      go (bad c o i) q = cc
+
+  module _ (n : ℕ) (h : r ≡ slots.Columns n) where
+    -- where they are found, the sizes are allowed and the question is asked of the columns
+    slots-asked : (sizes ≡ ok tt) × (inSchema file sizes number ask ≡ ask (packedFrom (min n 64) 0 s))
+    slots-asked =
+        let few : n ≤ 64 = rw h at (told .few) in
+        let z : min n 64 ≡ n = omega (arith, few) in
+        let (x, e, q) = bind-ok (selection file sizes number) (λ x. ok (map asColumn (x .columns))) (packedFrom n 0 s) (by-slots (slots.Columns n) h) in
+        let (u, e1, e2) = bind-ok (allSizes file sizes) (λ u. selectedOf file number) x e in
+        let (v, e3, e4) = bind-ok (about input.Schema (sized file)) (λ u. sizes) u e1 in
+        let d : map asColumn (x .columns) ≡ packedFrom n 0 s = ok-ok q in (
+          e4,
+          by-selection file sizes number ask
+              ∙ ap (λ (s : Read Selected). s >>= λ x. ask (map asColumn (x .columns))) e
+              ∙ ap ask d
+              ∙ ap (λ (m : ℕ). ask (packedFrom m 0 s)) (sym z),
+        )
+
+    -- the question is asked of the columns
+    pub slots-found : inSchema file sizes number ask ≡ ask (packedFrom (min n 64) 0 s)
+    slots-found = slots-asked .1
+
+    -- the sizes before it
+    pub slots-found-sized : inSchema file sizes number ask ≡ (sizes >>= λ u. ask (packedFrom (min n 64) 0 s))
+    slots-found-sized = slots-found ∙ sym (ap (λ (t : Read (Unit {0})). t >>= λ u. ask (packedFrom (min n 64) 0 s)) (slots-asked .0))
+
 -- What was read of a file says the answer to every question.
 module _ {file : Bytes} {sizes : Read (Unit {0})} {number : ℕ} {r : ColumnsRead} (told : Beside file sizes number r) {A : Type 0} (ask : List Column → Read A) where
   -- the selection, by what was found
@@ -141,6 +196,16 @@ module _ {file : Bytes} {number : ℕ} {r : ColumnsRead} (row : Bytes) (k : ℕ)
   pub look-found : AreBytes file → r .found ≡ found.Yes → lookUpRow (columnsIn (r .columns)) row k ≡ lookUpIn file number row k
   unfolding lookUpIn lookUpRow
   look-found bytes h = sym (found-sized told (λ columns. lookUp columns row k) bytes h)
+
+-- the same by slots
+module _ {file : Bytes} {number : ℕ} {s : List ℕ} {r : SlotsRead} (row : Bytes) (k : ℕ) (told : SlotsBeside file (about input.Row (sized row)) number s r) where
+  pub look-slots-refused : {e : Error} → r ≡ slots.Refused e → lookUpIn file number row k ≡ refused e
+  unfolding lookUpIn
+  look-slots-refused h = slots-refused told (λ columns. lookUp columns row k) h
+
+  pub look-slots-found : (n : ℕ) → r ≡ slots.Columns n → lookUpRow (packedFrom (min n 64) 0 s) row k ≡ lookUpIn file number row k
+  unfolding lookUpIn lookUpRow
+  look-slots-found n h = sym (slots-found-sized told (λ columns. lookUp columns row k) n h)
 
 -- The current value of column k, for the calls that answer it or its part.
 module _ {file : Bytes} {number : ℕ} {r : ColumnsRead} (row update : Bytes) (k : ℕ) (told : Beside file (sizesOf row update) number r) where

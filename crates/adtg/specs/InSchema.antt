@@ -9,7 +9,8 @@ use Rattle.column.specs.declared.columns.Columns.{Columns}
 use Rattle.column.specs.Layout.{layout}
 use Rattle.questions.specs.declared.file.ColumnsRead.{ColumnsRead}
 use Rattle.tree.specs.Schemas.{asColumn}
-use Rattle.questions.specs.Questions.{withSchema, toldFound}
+use Rattle.questions.specs.declared.file.SlotsRead.{SlotsRead}
+use Rattle.questions.specs.Questions.{withSchema, toldFound, toldSlots, Few}
 
 -- one check after the other: the first error
 abbrev pub both : Read (Unit {0}) → Read (Unit {0}) → Read (Unit {0})
@@ -31,3 +32,8 @@ columnsBeside file sizes number = inSchema file sizes number (λ columns. ok (la
 -- what was read says them
 pub record Beside (file : Bytes) (sizes : Read (Unit {0})) (number : ℕ) (r : ColumnsRead) : Type 0 where
   pub answers : toldFound (r .found) (r .columns) ≡ columnsBeside file sizes number
+
+-- the same in slots
+pub record SlotsBeside (file : Bytes) (sizes : Read (Unit {0})) (number : ℕ) (slots : List ℕ) (r : SlotsRead) : Type 0 where
+  pub answers : toldSlots r slots ≡ inSchema file sizes number (λ columns. ok columns)
+  pub few : Few r

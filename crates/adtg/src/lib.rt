@@ -3,11 +3,13 @@
 ghost use mathlib.Core.Path.{_≡_};
 ghost use Rattle.wire.specs.Read.{about, sized, sizedBy, toldMatch};
 ghost use Rattle.wire.specs.Integers.{toldInt};
-ghost use Rattle.adtg.specs.InSchema.{both, Beside};
+ghost use Rattle.adtg.specs.InSchema.{both, Beside, SlotsBeside};
 use column::columns::Columns;
 use questions::file::ColumnsRead;
 use questions::file::Found;
+use questions::file::SlotsRead;
 use questions::file::columns_of;
+use questions::file::slots_of;
 use wire::LIMIT;
 use wire::bytes::Matched;
 use wire::error::Error;
@@ -67,6 +69,29 @@ fn columns_for(file: &[u8], number: usize, other: &[u8], name: Input) -> Columns
     ensures { λ r. ⌜ Beside (now (file .entry)) (about name (sized (now (other .entry)))) number r ⌝ }
 {
     columns_beside(file, number, check_size(other.len(), name))
+}
+
+// The columns of schema `number` into slots, checked in the same order.
+fn slots_beside(file: &[u8], number: usize, others: Matched, slots: &mut [u32; 64]) -> SlotsRead
+    ensures { λ r. ⌜ SlotsBeside (now (file .entry)) (toldMatch others) number (now (slots .exit)) r ⌝ }
+{
+    match check_both(check_size(file.len(), Input::Schema), others) {
+        Matched::Refused(e) => SlotsRead::Refused(e),
+        Matched::Same => slots_of(file, number, slots),
+    }
+}
+
+// The columns of schema `number` into slots, beside one other input, whose errors have this name.
+fn slots_for(
+    file: &[u8],
+    number: usize,
+    other: &[u8],
+    name: Input,
+    slots: &mut [u32; 64],
+) -> SlotsRead
+    ensures { λ r. ⌜ SlotsBeside (now (file .entry)) (about name (sized (now (other .entry)))) number (now (slots .exit)) r ⌝ }
+{
+    slots_beside(file, number, check_size(other.len(), name), slots)
 }
 
 // The same answer; an error names this input.

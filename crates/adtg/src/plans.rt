@@ -3,12 +3,12 @@
 ghost use mathlib.Core.Path.{_≡_};
 ghost use Rattle.wire.specs.Read.{toldMatch};
 ghost use Rattle.adtg.specs.Plans.{planIn, blank, Planned, Checked};
-use crate::columns_beside;
+use crate::slots_beside;
 use plan::compare::check;
 use plan::make::make;
 use plan::plan::Plan;
-use questions::file::ColumnsRead;
 use questions::file::Found;
+use questions::file::SlotsRead;
 use wire::bytes::Matched;
 
 // A plan that was made; beside an error the blank plan.
@@ -30,16 +30,15 @@ fn blank_plan() -> Plan
 pub fn make_plan(file: &[u8], number: usize) -> PlanRead
     ensures { λ r. ⌜ Planned (now (file .entry)) number r ⌝ }
 {
-    let read = columns_beside(file, number, Matched::Same);
-    let found = read.found;
-    match found {
-        Found::Refused(e) => PlanRead {
+    let mut slots = [0u32; 64];
+    match slots_beside(file, number, Matched::Same, &mut slots) {
+        SlotsRead::Refused(e) => PlanRead {
             found: Found::Refused(e),
             plan: blank_plan(),
         },
-        Found::Yes => PlanRead {
+        SlotsRead::Columns(count) => PlanRead {
             found: Found::Yes,
-            plan: make(read.columns),
+            plan: make(&slots, count),
         },
     }
 }
@@ -48,10 +47,9 @@ pub fn make_plan(file: &[u8], number: usize) -> PlanRead
 pub fn check_plan(plan: Plan, file: &[u8], number: usize) -> Matched
     ensures { λ r. ⌜ Checked plan (planIn (now (file .entry)) number) (toldMatch r) ⌝ }
 {
-    let read = columns_beside(file, number, Matched::Same);
-    let found = read.found;
-    match found {
-        Found::Refused(e) => Matched::Refused(e),
-        Found::Yes => check(plan, read.columns),
+    let mut slots = [0u32; 64];
+    match slots_beside(file, number, Matched::Same, &mut slots) {
+        SlotsRead::Refused(e) => Matched::Refused(e),
+        SlotsRead::Columns(count) => check(plan, &slots, count),
     }
 }

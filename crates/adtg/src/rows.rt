@@ -6,8 +6,13 @@ ghost use Rattle.row.specs.Told.{toldLookUp};
 ghost use Rattle.adtg.specs.Rows.{lookUpIn, fieldCountIn, rowEndIn};
 use crate::about;
 use crate::columns_for;
+use crate::slots_for;
 use questions::file::Found;
+use questions::file::SlotsRead;
 use row::rows::LookUp;
+use row::rows::field_count_packed;
+use row::rows::look_up_packed;
+use row::rows::row_end_packed;
 use wire::error::Input;
 use wire::integer::IntRead;
 
@@ -15,11 +20,10 @@ use wire::integer::IntRead;
 pub fn look_up(file: &[u8], number: usize, row: &[u8], column: usize) -> LookUp
     ensures { λ r. ⌜ toldLookUp r ≡ lookUpIn (now (file .entry)) number (now (row .entry)) column ⌝ }
 {
-    let read = columns_for(file, number, row, Input::Row);
-    let found = read.found;
-    match found {
-        Found::Refused(e) => LookUp::Refused(e),
-        Found::Yes => row::rows::look_up(read.columns, row, column),
+    let mut slots = [0u32; 64];
+    match slots_for(file, number, row, Input::Row, &mut slots) {
+        SlotsRead::Refused(e) => LookUp::Refused(e),
+        SlotsRead::Columns(count) => look_up_packed(&slots, count, row, column),
     }
 }
 
@@ -39,11 +43,10 @@ pub fn field_part<'a>(file: &[u8], number: usize, row: &'a [u8], column: usize) 
 pub fn field_count(file: &[u8], number: usize, row: &[u8]) -> IntRead
     ensures { λ r. ⌜ toldInt r ≡ fieldCountIn (now (file .entry)) number (now (row .entry)) ⌝ }
 {
-    let read = columns_for(file, number, row, Input::Row);
-    let found = read.found;
-    match found {
-        Found::Refused(e) => IntRead::Refused(e),
-        Found::Yes => row::rows::field_count(read.columns, row),
+    let mut slots = [0u32; 64];
+    match slots_for(file, number, row, Input::Row, &mut slots) {
+        SlotsRead::Refused(e) => IntRead::Refused(e),
+        SlotsRead::Columns(count) => field_count_packed(&slots, count, row),
     }
 }
 
@@ -51,10 +54,9 @@ pub fn field_count(file: &[u8], number: usize, row: &[u8]) -> IntRead
 pub fn row_end(file: &[u8], number: usize, row: &[u8], at: usize) -> IntRead
     ensures { λ r. ⌜ toldInt r ≡ rowEndIn (now (file .entry)) number (now (row .entry)) at ⌝ }
 {
-    let read = columns_for(file, number, row, Input::Row);
-    let found = read.found;
-    match found {
-        Found::Refused(e) => IntRead::Refused(e),
-        Found::Yes => about(row::rows::row_end(read.columns, row, at), Input::Row),
+    let mut slots = [0u32; 64];
+    match slots_for(file, number, row, Input::Row, &mut slots) {
+        SlotsRead::Refused(e) => IntRead::Refused(e),
+        SlotsRead::Columns(count) => about(row_end_packed(&slots, count, row, at), Input::Row),
     }
 }

@@ -11,7 +11,7 @@ const MAXIMUM: usize = 65_536;
 
 // The number of a column.
 pub fn pack(column: Column) -> usize
-    ensures { λ r. ⌜ (r ≡ packedColumn column) × (r < 4294967296) ⌝ }
+    ensures { λ r. ⌜ (r ≡ packedColumn column) × (r < 4294967296) × (unpackedColumn r ≡ column) ⌝ }
 {
     column.code as usize + FLAGS * column.flags as usize + MAXIMUM * column.maximum as usize
 }
@@ -25,4 +25,11 @@ pub fn unpack(number: usize) -> Column
         flags: (number / FLAGS % 256) as u8,
         maximum: (number / MAXIMUM % 65_536) as u16,
     }
+}
+
+// The column in a number of 32 bits.
+pub fn unpack_slot(slot: u32) -> Column
+    ensures { λ r. ⌜ r ≡ unpackedColumn slot ⌝ }
+{
+    unpack(slot as usize)
 }

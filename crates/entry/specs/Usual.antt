@@ -1,6 +1,6 @@
 -- Promise: columns in the usual form, which code reads quickly. What it says is what the reader says; of a column it may say nothing.
 -- Assumes nothing.
-use Prim.Native.Nat.{ℕ, _-_}
+use Prim.Native.Nat.{ℕ, _-_, _<_}
 use mathlib.Core.Path.{_≡_}
 use Rattle.wire.specs.Read.{Bytes, Read, ok}
 use Rattle.column.specs.Types.{kindOf}
@@ -16,6 +16,7 @@ pub record Slotted (h : Read Head) (slot end : ℕ) : Type 0 where
   pub maximum : ℕ
   pub head : h ≡ ok (fieldHead code flags maximum end)
   pub holds : slot ≡ packed code flags maximum 0
+  pub small : slot < 4294967296
 
 -- what a `Usual` says
 abbrev pub Says : Read Head → Usual → Type 0

@@ -4,6 +4,8 @@ ghost use Prim.Native.Nat.{_+_, _≤_};
 ghost use lib.ListN.{length};
 ghost use Rattle.entry.specs.Heads.{fixedHead, variableHead, headAt};
 ghost use Rattle.entry.specs.Usual.{Says, SaysBehind};
+use crate::head::HeadRead;
+use crate::head::head_at;
 use column::column::Column;
 use column::packed::pack;
 use column::types::ColumnType;
@@ -111,4 +113,43 @@ pub fn usual_at(file: &[u8], at: usize) -> Usual
         return Usual::Unusual;
     }
     usual_by(file, code, at + 2)
+}
+
+// The column whose type code stands at `at`, in whatever form. Of a chapter it tells nothing.
+fn patient_at(file: &[u8], at: usize) -> Usual
+    ensures { λ r. ⌜ Says (headAt (now (file .entry)) at) r ⌝ }
+{
+    match head_at(file, at) {
+        HeadRead::Refused(_) => Usual::Unusual,
+        HeadRead::Chapter {
+            flags: _,
+            id: _,
+            id_at: _,
+            end: _,
+        } => Usual::Unusual,
+        HeadRead::Field {
+            code,
+            flags,
+            maximum,
+            end,
+        } => Usual::Column {
+            slot: pack(Column {
+                code: code as u8,
+                flags: flags as u8,
+                maximum: maximum as u16,
+            }) as u64,
+            end,
+        },
+    }
+}
+
+// The same, quickly where it is in the usual form.
+pub fn plain_at(file: &[u8], at: usize) -> Usual
+    ensures { λ r. ⌜ Says (headAt (now (file .entry)) at) r ⌝ }
+{
+    let quick = usual_at(file, at);
+    match quick {
+        Usual::Column { slot, end } => Usual::Column { slot, end },
+        Usual::Unusual => patient_at(file, at),
+    }
 }

@@ -15,12 +15,13 @@ use borrow.Author.Tests.{eqb-true, ne-eqb}
 use Rattle.wire.specs.Read.{pick}
 use Rattle.column.specs.declared.column.Column.{Column}
 use Rattle.column.specs.Columns.{width, isChapter, isNullable, isStop}
-use Rattle.column.specs.Layout.{padded, columnIn, columnsFrom}
+use Rattle.column.specs.Layout.{padded}
+use Rattle.column.specs.Packed.{packedAt, packedFrom}
 use Rattle.column.specs.Stops.{stopOf, stopWord}
 use Rattle.column.proofs.Stops.{width-few, stop-chapter, no-stop}
 use Rattle.walk.specs.Presence.{noColumn, one, presenceBytes, marks}
 use Rattle.walk.specs.Leaps.{stopsFrom}
-use Rattle.walk.proofs.Arrays.{length-from, column-from}
+use Rattle.walk.proofs.Slots.{length-from, column-from}
 use Rattle.plan.specs.Plans.{gapPast, numbersFrom, rowStops, firstStop, chapterMask, planOf}
 use Rattle.plan.specs.Packed.{packed, counted, laid}
 use Rattle.plan.proofs.Packed.{set-column, set-stop, set-counts}
@@ -66,20 +67,20 @@ fill-start cs h e =
 
 -- one column more: its number is v, the next has bit b
 module _
-    (codes flags maxima : List ℕ) (n : ℕ) (few : n ≤ 64) {numbers : List ℕ} {gap bit stops first mask i : ℕ}
-    (f : Filling (columnsFrom n 0 codes flags maxima) numbers gap bit stops first mask i) (l : i < n) (c : Column) (e : c ≡ columnIn codes flags maxima i) (v : ℕ)
+    (slots : List ℕ) (n : ℕ) (few : n ≤ 64) {numbers : List ℕ} {gap bit stops first mask i : ℕ}
+    (f : Filling (packedFrom n 0 slots) numbers gap bit stops first mask i) (l : i < n) (c : Column) (e : c ≡ packedAt slots i) (v : ℕ)
     (d : v ≡ packed c (pick (isChapter c) 0 gap) bit stops) (t : Bool) (k : t ≡ isNullable c) (o : ℕ) (h : o ≡ one t) where
   abbrev cs : List Column
-  cs = columnsFrom n 0 codes flags maxima
+  cs = packedFrom n 0 slots
 
   within : i < length cs
-  within = omega (arith, length-from codes flags maxima n 0)
+  within = omega (arith, length-from slots n 0)
 
   over : o ≡ one (isNullable c)
   over = h ∙ ap one k
 
   left : drop i cs ≡ c ∷ drop (i + 1) cs
-  left = rw add-one (drop-cons cs i noColumn within ∙ rw (column-from codes flags maxima n i l, sym e))
+  left = rw add-one (drop-cons cs i noColumn within ∙ rw (column-from slots n i l, sym e))
 
   -- its number
   number-written : set numbers i v ≡ laid (f .columns ++ (v ∷ [])) (f .words) 0 0 0
@@ -152,7 +153,7 @@ module _
   -- any other, whose bit is m
   pub mask-room : {r : Bool} → r ≡ isStop c → r ≡ false → {m : ℕ} → m ≡ pick t (2 ^ (63 - bit)) 0 → mask + m < 18446744073709551616
   mask-room x z q =
-      rw (q, k) (omega (arith, bit-left, bit-plain (2 ^ (63 - bit)) (sym x ∙ z), mask-few cs (omega (arith, length-from codes flags maxima n 0))))
+      rw (q, k) (omega (arith, bit-left, bit-plain (2 ^ (63 - bit)) (sym x ∙ z), mask-few cs (omega (arith, length-from slots n 0))))
 
   pub fill-plain :
       {r : Bool} → r ≡ isStop c → r ≡ false → {m size : ℕ} → m ≡ pick t (2 ^ (63 - bit)) 0 → size ≡ width c →

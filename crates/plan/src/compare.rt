@@ -2,11 +2,11 @@
 ghost use mathlib.Core.Path.{_≡_};
 ghost use mathlib.Core.Bool.{true};
 ghost use Rattle.wire.specs.Read.{toldMatch};
-ghost use Rattle.column.specs.Layout.{columnsIn};
+ghost use Prim.Native.Nat.{min};
+ghost use Rattle.column.specs.Packed.{packedFrom};
 ghost use Rattle.plan.specs.Compare.{Compared};
 use crate::make::make;
 use crate::plan::Plan;
-use column::columns::Columns;
 use wire::bytes::Matched;
 use wire::error::Error;
 use wire::error::ErrorKind;
@@ -26,11 +26,11 @@ fn same(a: Plan, b: Plan) -> bool
     true
 }
 
-// Whether a plan is that of these columns; else error 17.
-pub fn check(plan: Plan, columns: Columns) -> Matched
-    ensures { λ r. ⌜ Compared plan (columnsIn columns) (toldMatch r) ⌝ }
+// Whether a plan is that of the columns in the first `count` slots; else error 17.
+pub fn check(plan: Plan, slots: &[u32; 64], count: usize) -> Matched
+    ensures { λ r. ⌜ Compared plan (packedFrom (min count 64) 0 (now (slots .entry))) (toldMatch r) ⌝ }
 {
-    if same(plan, make(columns)) {
+    if same(plan, make(slots, count)) {
         return Matched::Same;
     }
     Matched::Refused(Error {

@@ -1,10 +1,10 @@
 // The plan of the columns of a schema: one loop over them.
 ghost use mathlib.Core.Path.{_≡_};
-ghost use Prim.Native.Nat.{_-_, _^_, _≤_, _<_};
+ghost use Prim.Native.Nat.{_-_, _^_, _≤_, _<_, min};
 ghost use lib.Dec.{eqb};
 ghost use Rattle.wire.specs.Read.{pick};
 ghost use Rattle.column.specs.Columns.{width, isChapter};
-ghost use Rattle.column.specs.Layout.{columnIn, columnsFrom, columnsIn};
+ghost use Rattle.column.specs.Packed.{packedAt, packedFrom};
 ghost use Rattle.walk.specs.Presence.{presenceBytes};
 ghost use Rattle.plan.specs.Packed.{packed};
 ghost use Rattle.plan.specs.Plans.{planOf};
@@ -19,28 +19,19 @@ use crate::parts::STOPS;
 use crate::parts::WIDTH;
 use crate::plan::Plan;
 use column::column::Column;
-use column::columns::Columns;
 use column::packed::pack;
+use column::packed::unpack_slot;
 use row::rows::one;
 use row::rows::presence_bytes;
 use stops::stop::stop_word;
 use wire::lesser;
 
-// Column `i` of the arrays of a schema's columns.
-fn column_of<'a>(
-    codes: &'a [u8; 64],
-    flags: &'a [u8; 64],
-    maxima: &'a [u16; 64],
-    i: usize,
-) -> Column
+// Column `i` of a schema's slots.
+fn column_of(slots: &[u32; 64], i: usize) -> Column
     requires { ⌜ i < 64 ⌝ }
-    ensures { λ r. ⌜ r ≡ columnIn (now (codes .entry)) (now (flags .entry)) (now (maxima .entry)) i ⌝ }
+    ensures { λ r. ⌜ r ≡ packedAt (now (slots .entry)) i ⌝ }
 {
-    Column {
-        code: codes[i],
-        flags: flags[i],
-        maximum: maxima[i],
-    }
+    unpack_slot(slots[i])
 }
 
 // What a plan holds as the gap of a column: nothing for a chapter.
@@ -77,16 +68,10 @@ fn chapter_bit(nullable: bool, bit: usize) -> usize
     }
 }
 
-// The plan of the first `n` columns of three arrays, whose presence map has so many bytes.
-fn plan_of<'a>(
-    codes: &'a [u8; 64],
-    flags: &'a [u8; 64],
-    maxima: &'a [u16; 64],
-    n: usize,
-    map: usize,
-) -> Plan
-    requires { ⌜ (n ≤ 64) × (map ≡ presenceBytes (columnsFrom n 0 (now codes) (now flags) (now maxima))) ⌝ }
-    ensures { λ r. ⌜ r ≡ planOf (columnsFrom n 0 (now (codes .entry)) (now (flags .entry)) (now (maxima .entry))) ⌝ }
+// The plan of the columns in the first `n` slots, whose presence map has so many bytes.
+fn plan_of(slots: &[u32; 64], n: usize, map: usize) -> Plan
+    requires { ⌜ (n ≤ 64) × (map ≡ presenceBytes (packedFrom n 0 (now slots))) ⌝ }
+    ensures { λ r. ⌜ r ≡ planOf (packedFrom n 0 (now (slots .entry))) ⌝ }
 {
     let mut numbers = [0usize; 131];
     let mut gap = map;
@@ -96,7 +81,7 @@ fn plan_of<'a>(
     let mut mask = 0;
     let mut i = 0;
     while i < n {
-        let column = column_of(codes, flags, maxima, i);
+        let column = column_of(slots, i);
         let nullable = column.is_nullable();
         let size = column.width();
         numbers[i] = number_of(column, size, gap, bit, stops);
@@ -120,21 +105,10 @@ fn plan_of<'a>(
     Plan { numbers }
 }
 
-// The plan of the columns of a schema.
-pub fn make(columns: Columns) -> Plan
-    ensures { λ r. ⌜ r ≡ planOf (columnsIn columns) ⌝ }
+// The plan of the columns in the first `count` slots.
+pub fn make(slots: &[u32; 64], count: usize) -> Plan
+    ensures { λ r. ⌜ r ≡ planOf (packedFrom (min count 64) 0 (now (slots .entry))) ⌝ }
 {
-    let map = presence_bytes(
-        &columns.codes,
-        &columns.flags,
-        &columns.maxima,
-        columns.count,
-    );
-    plan_of(
-        &columns.codes,
-        &columns.flags,
-        &columns.maxima,
-        lesser(columns.count, 64),
-        map,
-    )
+    let map = presence_bytes(slots, count);
+    plan_of(slots, lesser(count, 64), map)
 }

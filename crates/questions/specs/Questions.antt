@@ -1,6 +1,6 @@
 -- Promise: what is asked of a schema file, and the order of checks of every call that takes one.
 -- Assumes nothing.
-use Prim.Native.Nat.{ℕ}
+use Prim.Native.Nat.{ℕ, _≤_}
 use mathlib.Core.Path.{_≡_}
 use mathlib.Core.List.{List, [], map}
 use mathlib.Core.Option.{Option, none, some}
@@ -10,7 +10,8 @@ use Rattle.wire.specs.declared.error.Input.the-variants as input
 use Rattle.wire.specs.Read.{Bytes, Read, ok, bad, _>>=_, pick, check, about, refused, sized}
 use Rattle.column.specs.declared.column.Column.{Column}
 use Rattle.column.specs.declared.columns.Columns.{Columns}
-use Rattle.column.specs.Layout.{layout}
+use Rattle.column.specs.Layout.{mostColumns, layout}
+use Rattle.column.specs.Packed.{packedFrom}
 use Rattle.questions.specs.declared.file.CountsRead.{CountsRead}
 use Rattle.questions.specs.declared.file.CountsRead.the-variants as counted
 use Rattle.questions.specs.declared.file.SizeRead.{SizeRead}
@@ -22,6 +23,8 @@ use Rattle.questions.specs.declared.file.ColumnRead.the-variants as colu
 use Rattle.questions.specs.declared.file.Found.{Found}
 use Rattle.questions.specs.declared.file.Found.the-variants as found
 use Rattle.questions.specs.declared.file.ColumnsRead.{ColumnsRead}
+use Rattle.questions.specs.declared.file.SlotsRead.{SlotsRead}
+use Rattle.questions.specs.declared.file.SlotsRead.the-variants as slots
 use Rattle.column.specs.Types.{chapterCode}
 use Rattle.tree.specs.Schemas.{Entry, entry, asColumn, Schema, schema, readSchemas, schemaCount, columnCount, schemaAt, childNumber, or0}
 use Rattle.tree.specs.Table.{entriesIn, schemasIn, Slots}
@@ -77,6 +80,22 @@ toldFound (found.Refused e) columns = refused e
 pub record Columned (b : Bytes) (k : ℕ) (r : ColumnsRead) : Type 0 where
   pub answers : toldFound (r .found) (r .columns) ≡ columnsOf b k
   pub holds : r .columns ≡ beside (columnsOf b k)
+
+-- The columns of a schema, each in a slot.
+unfoldable pub columnListOf : Bytes → ℕ → Read (List Column)
+columnListOf b k = withSchema b alone k (λ schemas columns. ok (map asColumn columns))
+
+abbrev pub toldSlots : SlotsRead → List ℕ → Read (List Column)
+toldSlots (slots.Columns n) s = ok (packedFrom n 0 s)
+toldSlots (slots.Refused e) s = refused e
+
+abbrev pub Few : SlotsRead → Type 0
+Few (slots.Columns n) = n ≤ mostColumns
+Few (slots.Refused e) = Unit {0}
+
+pub record Slotted (b : Bytes) (k : ℕ) (s : List ℕ) (r : SlotsRead) : Type 0 where
+  pub answers : toldSlots r s ≡ columnListOf b k
+  pub few : Few r
 
 -- the schema number that belongs to a child id; error 18 where there is none
 abbrev pub foundChild : Option ℕ → Read ℕ

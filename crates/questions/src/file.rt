@@ -7,11 +7,13 @@ ghost use Rattle.column.specs.Layout.{layout};
 ghost use lib.ListN.{length};
 ghost use Rattle.tree.specs.Schemas.{asColumn, childNumber, or0};
 ghost use Rattle.tree.specs.Table.{tableSize, entriesIn, schemasIn};
-ghost use Rattle.questions.specs.Questions.{countsOf, toldCounts, Opening, columnCountOf, toldSize, Columned, childOf, columnOf, toldColumn};
+ghost use Rattle.questions.specs.Questions.{countsOf, toldCounts, Opening, columnCountOf, toldSize, Columned, Slotted, childOf, columnOf, toldColumn};
 use column::columns::Columns;
 use column::types::ColumnType;
 use schema::MOST_FILE_COLUMNS;
 use schema::columns::columns_in;
+use schema::columns::slots_in;
+use schema::flat::read_flat;
 use schema::reader::PlaceRead;
 use schema::reader::read_file;
 use wire::error::Error;
@@ -62,6 +64,12 @@ pub enum Found {
 pub struct ColumnsRead {
     pub found: Found,
     pub columns: Columns,
+}
+
+// How many columns a schema has that was asked for; each is in its slot.
+pub enum SlotsRead {
+    Columns(usize),
+    Refused(Error),
 }
 
 // An error of the schema file, in a call with other inputs.
@@ -237,4 +245,35 @@ pub fn columns_of(file: &[u8], number: usize) -> ColumnsRead
             }
         }
     }
+}
+
+// The columns of schema `number` into slots, out of the whole file's table.
+fn patient_slots(file: &[u8], number: usize, slots: &mut [u32; 64]) -> SlotsRead
+    ensures { λ r. ⌜ Slotted (now (file .entry)) number (now (slots .exit)) r ⌝ }
+{
+    let mut table = [0u64; 512];
+    match open_schema(file, number, &mut table) {
+        Opened::Refused(e) => SlotsRead::Refused(e),
+        Opened::Block {
+            start,
+            count,
+            schemas: _,
+        } => {
+            slots_in(&table, start, count, slots);
+            SlotsRead::Columns(count)
+        }
+    }
+}
+
+// The columns of schema `number` into slots. A file without chapters needs no table.
+pub fn slots_of(file: &[u8], number: usize, slots: &mut [u32; 64]) -> SlotsRead
+    ensures { λ r. ⌜ Slotted (now (file .entry)) number (now (slots .exit)) r ⌝ }
+{
+    if number == 0 {
+        let count = read_flat(file, slots);
+        if 0 < count {
+            return SlotsRead::Columns(count);
+        }
+    }
+    patient_slots(file, number, slots)
 }

@@ -2,26 +2,18 @@
 // knows columns and not schema files; whoever has a schema file asks it with the schema's columns.
 ghost use mathlib.Core.Path.{_≡_};
 ghost use Prim.Native.Nat.{_<_};
-ghost use Rattle.column.specs.Layout.{columnIn};
+ghost use Rattle.column.specs.Packed.{packedAt};
 use column::column::Column;
+use column::packed::unpack_slot;
 
 pub mod marks;
 pub mod parts;
 pub mod rows;
 
-// Column `i` of a schema's arrays.
-fn column_of<'a>(
-    codes: &'a [u8; 64],
-    flags: &'a [u8; 64],
-    maxima: &'a [u16; 64],
-    i: usize,
-) -> Column
+// Column `i` of a schema's slots.
+fn column_of(slots: &[u32; 64], i: usize) -> Column
     requires { ⌜ i < 64 ⌝ }
-    ensures { λ r. ⌜ r ≡ columnIn (now (codes .entry)) (now (flags .entry)) (now (maxima .entry)) i ⌝ }
+    ensures { λ r. ⌜ r ≡ packedAt (now (slots .entry)) i ⌝ }
 {
-    Column {
-        code: codes[i],
-        flags: flags[i],
-        maximum: maxima[i],
-    }
+    unpack_slot(slots[i])
 }

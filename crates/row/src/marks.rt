@@ -11,6 +11,7 @@ use crate::rows::count_nullable;
 use crate::rows::is_present;
 use crate::rows::open_row;
 use column::columns::Columns;
+use column::columns::pack_all;
 use wire::integer::IntRead;
 use wire::lesser;
 
@@ -19,7 +20,8 @@ pub fn opened(columns: Columns, row: &[u8], at: usize) -> IntRead
     ensures { λ r. ⌜ toldInt r ≡ opened (columnsIn columns) (now (row .entry)) at ⌝ }
 {
     let n = lesser(columns.count, 64);
-    open_row(&columns.codes, &columns.flags, &columns.maxima, n, row, at)
+    let slots = pack_all(columns);
+    open_row(&slots, n, row, at)
 }
 
 // Whether a row with this map has a field of column `i`.
@@ -29,7 +31,6 @@ pub fn has_field(columns: Columns, map: &[u8], i: usize) -> bool
     if 64 <= i {
         return false;
     }
-    let column = column_of(&columns.codes, &columns.flags, &columns.maxima, i);
-    let bit = count_nullable(&columns.codes, &columns.flags, &columns.maxima, i);
-    is_present(column, bit, map)
+    let slots = pack_all(columns);
+    is_present(column_of(&slots, i), count_nullable(&slots, i), map)
 }

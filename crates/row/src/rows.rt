@@ -1,19 +1,23 @@
 // Original rows: presence, opening, the walk, look-up by the walk, the end of a row, the number of fields.
 ghost use mathlib.Core.Path.{_≡_};
-ghost use Prim.Native.Nat.{_≤_, _<_, _*_, min};
+ghost use Prim.Native.Nat.{_+_, _≤_, _<_, _*_, min};
 ghost use lib.ListN.{length};
 ghost use Rattle.wire.specs.Read.{ok, pick};
 ghost use Rattle.wire.specs.Integers.{toldInt};
-ghost use Rattle.column.specs.Columns.{isChapter, isNullable};
-ghost use Rattle.column.specs.Layout.{columnsFrom, columnsIn};
+ghost use mathlib.Core.Bool.{false};
+ghost use lib.Dec.{leb};
+ghost use Rattle.column.specs.Columns.{width, isChapter, isNullable, isVariable};
+ghost use Rattle.column.specs.Layout.{columnsIn};
+ghost use Rattle.column.specs.Packed.{packedFrom};
 ghost use Rattle.walk.specs.Presence.{one, mark, marks, nullables, presenceBytes, present, chapterPresent};
 ghost use Rattle.walk.specs.Rows.{opened, place, walk, rowEnd, lookUp, lookUpRow, always, setBits, fieldCount};
 ghost use Rattle.wire.specs.declared.error.Input.the-variants as input;
 ghost use Rattle.row.specs.declared.rows.LookUp.the-variants as look;
-ghost use Rattle.row.specs.Told.{toldWalk, toldLookUp};
+ghost use Rattle.row.specs.Told.{toldWalk, toldLookUp, NoChapter};
 use crate::column_of;
 use column::column::Column;
 use column::columns::Columns;
+use column::columns::pack_all;
 use column::field::Field;
 use column::field::FieldRead;
 use column::field::field_at;
@@ -78,49 +82,46 @@ pub fn one(so: bool) -> usize
 }
 
 // How many of the first `n` columns are nullable.
-pub(crate) fn count_nullable<'a>(
-    codes: &'a [u8; 64],
-    flags: &'a [u8; 64],
-    maxima: &'a [u16; 64],
-    n: usize,
-) -> usize
+pub(crate) fn count_nullable(slots: &[u32; 64], n: usize) -> usize
     requires { ⌜ n ≤ 64 ⌝ }
-    ensures { λ r. ⌜ r ≡ nullables (columnsFrom n 0 (now (codes .entry)) (now (flags .entry)) (now (maxima .entry))) ⌝ }
+    ensures { λ r. ⌜ r ≡ nullables (packedFrom n 0 (now (slots .entry))) ⌝ }
 {
     let mut bits = 0;
     let mut i = 0;
     while i < n {
-        bits += one(column_of(codes, flags, maxima, i).is_nullable());
+        bits += one(column_of(slots, i).is_nullable());
         i += 1;
     }
     bits
 }
 
-// The bytes of the presence map of the first `n` of 64 columns.
-pub fn presence_bytes<'a>(
-    codes: &'a [u8; 64],
-    flags: &'a [u8; 64],
-    maxima: &'a [u16; 64],
-    n: usize,
-) -> usize
-    ensures { λ r. ⌜ r ≡ presenceBytes (columnsFrom (min n 64) 0 (now (codes .entry)) (now (flags .entry)) (now (maxima .entry))) ⌝ }
+// How many of the first `n` columns are chapters.
+fn count_chapters(slots: &[u32; 64], n: usize) -> usize
+    requires { ⌜ n ≤ 64 ⌝ }
+    ensures { λ r. ⌜ (r ≡ 0 → NoChapter (now (slots .entry)) n) ⌝ }
 {
-    map_bytes(count_nullable(codes, flags, maxima, lesser(n, 64)))
+    let mut chapters = 0;
+    let mut i = 0;
+    while i < n {
+        chapters += one(column_of(slots, i).is_chapter());
+        i += 1;
+    }
+    chapters
+}
+
+// The bytes of the presence map of the first `n` of 64 columns.
+pub fn presence_bytes(slots: &[u32; 64], n: usize) -> usize
+    ensures { λ r. ⌜ r ≡ presenceBytes (packedFrom (min n 64) 0 (now (slots .entry))) ⌝ }
+{
+    map_bytes(count_nullable(slots, lesser(n, 64)))
 }
 
 // Opens the row at `at`: its map is whole and no chapter's bit is set. Where its data start.
-pub(crate) fn open_row<'a>(
-    codes: &'a [u8; 64],
-    flags: &'a [u8; 64],
-    maxima: &'a [u16; 64],
-    n: usize,
-    row: &[u8],
-    at: usize,
-) -> IntRead
+pub(crate) fn open_row(slots: &[u32; 64], n: usize, row: &[u8], at: usize) -> IntRead
     requires { ⌜ n ≤ 64 ⌝ }
-    ensures { λ r. ⌜ toldInt r ≡ opened (columnsFrom n 0 (now (codes .entry)) (now (flags .entry)) (now (maxima .entry))) (now (row .entry)) at ⌝ }
+    ensures { λ r. ⌜ toldInt r ≡ opened (packedFrom n 0 (now (slots .entry))) (now (row .entry)) at ⌝ }
 {
-    let bits = count_nullable(codes, flags, maxima, n);
+    let bits = count_nullable(slots, n);
     let size = map_bytes(bits);
     if lacks(row.len(), at, size) {
         return IntRead::Refused(Error {
@@ -129,10 +130,13 @@ pub(crate) fn open_row<'a>(
             input: Input::Single,
         });
     }
+    if count_chapters(slots, n) == 0 {
+        return IntRead::Int(at + size);
+    }
     let mut bit = 0;
     let mut i = 0;
     while i < n {
-        let column = column_of(codes, flags, maxima, i);
+        let column = column_of(slots, i);
         if is_chapter_set(column, bit, &row[at..]) {
             return IntRead::Refused(Error {
                 kind: ErrorKind::ChapterBit,
@@ -146,19 +150,23 @@ pub(crate) fn open_row<'a>(
     IntRead::Int(at + size)
 }
 
+// Whether a field of fixed width stands at `at` of so many bytes, whole.
+fn is_whole(column: Column, size: usize, at: usize) -> bool
+    ensures { λ r. ⌜ r ≡ pick (isVariable column) false (leb (at + width column) size) ⌝ }
+{
+    if column.is_variable() {
+        return false;
+    }
+    if lacks(size, at, column.width()) {
+        return false;
+    }
+    return true;
+}
+
 // The walk from `start` over the first `k` columns, by this map.
-fn walk_row<'a>(
-    codes: &'a [u8; 64],
-    flags: &'a [u8; 64],
-    maxima: &'a [u16; 64],
-    n: usize,
-    map: &[u8],
-    row: &[u8],
-    start: usize,
-    k: usize,
-) -> WalkRead
+fn walk_row(slots: &[u32; 64], n: usize, map: &[u8], row: &[u8], start: usize, k: usize) -> WalkRead
     requires { ⌜ n ≤ 64 ⌝ }
-    ensures { λ r. ⌜ toldWalk r ≡ walk (present (now (map .entry))) (now (row .entry)) k (marks 0 (columnsFrom n 0 (now (codes .entry)) (now (flags .entry)) (now (maxima .entry)))) (place start 0) ⌝ }
+    ensures { λ r. ⌜ toldWalk r ≡ walk (present (now (map .entry))) (now (row .entry)) k (marks 0 (packedFrom n 0 (now (slots .entry)))) (place start 0) ⌝ }
 {
     let last = lesser(n, k);
     let mut bit = 0;
@@ -166,17 +174,23 @@ fn walk_row<'a>(
     let mut prefixes = 0;
     let mut i = 0;
     while i < last {
-        let column = column_of(codes, flags, maxima, i);
+        let column = column_of(slots, i);
         if is_present(column, bit, map) {
-            match field_at(column, row, position) {
-                FieldRead::Refused(e) => {
-                    return WalkRead::Refused(e);
-                }
-                FieldRead::Found(f) => {
-                    position = f.end;
-                    prefixes += f.prefixes;
-                    bit += one(column.is_nullable());
-                    i += 1;
+            if is_whole(column, row.len(), position) {
+                position += column.width();
+                bit += one(column.is_nullable());
+                i += 1;
+            } else {
+                match field_at(column, row, position) {
+                    FieldRead::Refused(e) => {
+                        return WalkRead::Refused(e);
+                    }
+                    FieldRead::Found(f) => {
+                        position = f.end;
+                        prefixes += f.prefixes;
+                        bit += one(column.is_nullable());
+                        i += 1;
+                    }
                 }
             }
         } else {
@@ -203,25 +217,17 @@ fn about_row(e: Error) -> LookUp
 }
 
 // Column `k` of a row that opens, its data from `start` on: a chapter, null, or its field by the walk to it.
-fn look_at<'a>(
-    codes: &'a [u8; 64],
-    flags: &'a [u8; 64],
-    maxima: &'a [u16; 64],
-    n: usize,
-    row: &[u8],
-    start: usize,
-    k: usize,
-) -> LookUp
-    requires { ⌜ (n ≤ 64) × (k < n) × (opened (columnsFrom n 0 (now codes) (now flags) (now maxima)) (now row) 0 ≡ ok start) ⌝ }
-    ensures { λ r. ⌜ toldLookUp r ≡ lookUp (columnsFrom n 0 (now (codes .entry)) (now (flags .entry)) (now (maxima .entry))) (now (row .entry)) k ⌝ }
+fn look_at(slots: &[u32; 64], n: usize, row: &[u8], start: usize, k: usize) -> LookUp
+    requires { ⌜ (n ≤ 64) × (k < n) × (opened (packedFrom n 0 (now slots)) (now row) 0 ≡ ok start) ⌝ }
+    ensures { λ r. ⌜ toldLookUp r ≡ lookUp (packedFrom n 0 (now (slots .entry))) (now (row .entry)) k ⌝ }
 {
-    let column = column_of(codes, flags, maxima, k);
+    let column = column_of(slots, k);
     if column.is_chapter() {
         return LookUp::Chapter;
     }
-    let bit = count_nullable(codes, flags, maxima, k);
+    let bit = count_nullable(slots, k);
     if is_present(column, bit, row) {
-        return match walk_row(codes, flags, maxima, n, row, row, start, k) {
+        return match walk_row(slots, n, row, row, start, k) {
             WalkRead::Refused(e) => about_row(e),
             WalkRead::At { position, prefixes } => match field_at(column, row, position) {
                 FieldRead::Refused(e) => about_row(e),
@@ -236,9 +242,9 @@ fn look_at<'a>(
     LookUp::Null
 }
 
-// What a row of these columns has at column `k`.
-pub fn look_up(columns: Columns, row: &[u8], k: usize) -> LookUp
-    ensures { λ r. ⌜ toldLookUp r ≡ lookUpRow (columnsIn columns) (now (row .entry)) k ⌝ }
+// What a row of the columns in the first `count` slots has at column `k`.
+pub fn look_up_packed(slots: &[u32; 64], count: usize, row: &[u8], k: usize) -> LookUp
+    ensures { λ r. ⌜ toldLookUp r ≡ lookUpRow (packedFrom (min count 64) 0 (now (slots .entry))) (now (row .entry)) k ⌝ }
 {
     if row.len() > LIMIT {
         return LookUp::Refused(Error {
@@ -247,7 +253,7 @@ pub fn look_up(columns: Columns, row: &[u8], k: usize) -> LookUp
             input: Input::Row,
         });
     }
-    let n = lesser(columns.count, 64);
+    let n = lesser(count, 64);
     if k >= n {
         return LookUp::Refused(Error {
             kind: ErrorKind::Missing,
@@ -255,46 +261,45 @@ pub fn look_up(columns: Columns, row: &[u8], k: usize) -> LookUp
             input: Input::Column,
         });
     }
-    match open_row(&columns.codes, &columns.flags, &columns.maxima, n, row, 0) {
+    match open_row(slots, n, row, 0) {
         IntRead::Refused(e) => about_row(e),
-        IntRead::Int(start) => look_at(
-            &columns.codes,
-            &columns.flags,
-            &columns.maxima,
-            n,
-            row,
-            start,
-            k,
-        ),
+        IntRead::Int(start) => look_at(slots, n, row, start, k),
     }
 }
 
-// Where the row at `at` of an input ends, all its fields included.
+// What a row of these columns has at column `k`.
+pub fn look_up(columns: Columns, row: &[u8], k: usize) -> LookUp
+    ensures { λ r. ⌜ toldLookUp r ≡ lookUpRow (columnsIn columns) (now (row .entry)) k ⌝ }
+{
+    let count = columns.count;
+    let slots = pack_all(columns);
+    look_up_packed(&slots, count, row, k)
+}
+
+// Where the row at `at` of an input ends, all its fields included; of the columns in the first `count` slots.
+pub fn row_end_packed(slots: &[u32; 64], count: usize, row: &[u8], at: usize) -> IntRead
+    ensures { λ r. ⌜ toldInt r ≡ rowEnd (packedFrom (min count 64) 0 (now (slots .entry))) (now (row .entry)) at ⌝ }
+{
+    let n = lesser(count, 64);
+    match open_row(slots, n, row, at) {
+        IntRead::Refused(e) => IntRead::Refused(e),
+        IntRead::Int(start) => match walk_row(slots, n, &row[at..], row, start, n) {
+            WalkRead::Refused(e) => IntRead::Refused(e),
+            WalkRead::At {
+                position,
+                prefixes: _,
+            } => IntRead::Int(position),
+        },
+    }
+}
+
+// The same of these columns.
 pub fn row_end(columns: Columns, row: &[u8], at: usize) -> IntRead
     ensures { λ r. ⌜ toldInt r ≡ rowEnd (columnsIn columns) (now (row .entry)) at ⌝ }
 {
-    let n = lesser(columns.count, 64);
-    match open_row(&columns.codes, &columns.flags, &columns.maxima, n, row, at) {
-        IntRead::Refused(e) => IntRead::Refused(e),
-        IntRead::Int(start) => {
-            match walk_row(
-                &columns.codes,
-                &columns.flags,
-                &columns.maxima,
-                n,
-                &row[at..],
-                row,
-                start,
-                n,
-            ) {
-                WalkRead::Refused(e) => IntRead::Refused(e),
-                WalkRead::At {
-                    position,
-                    prefixes: _,
-                } => IntRead::Int(position),
-            }
-        }
-    }
+    let count = columns.count;
+    let slots = pack_all(columns);
+    row_end_packed(&slots, count, row, at)
 }
 
 // 1 for a column that every row has a field of, else 0.
@@ -311,19 +316,14 @@ fn always_one(column: Column) -> usize
 }
 
 // How many of the first `n` columns every row has a field of.
-fn count_always<'a>(
-    codes: &'a [u8; 64],
-    flags: &'a [u8; 64],
-    maxima: &'a [u16; 64],
-    n: usize,
-) -> usize
+fn count_always(slots: &[u32; 64], n: usize) -> usize
     requires { ⌜ n ≤ 64 ⌝ }
-    ensures { λ r. ⌜ r ≡ always (columnsFrom n 0 (now (codes .entry)) (now (flags .entry)) (now (maxima .entry))) ⌝ }
+    ensures { λ r. ⌜ r ≡ always (packedFrom n 0 (now (slots .entry))) ⌝ }
 {
     let mut count = 0;
     let mut i = 0;
     while i < n {
-        count += always_one(column_of(codes, flags, maxima, i));
+        count += always_one(column_of(slots, i));
         i += 1;
     }
     count
@@ -350,9 +350,9 @@ fn count_set(map: &[u8], n: usize) -> usize
     count
 }
 
-// The number of fields of a row, by its map alone.
-pub fn field_count(columns: Columns, row: &[u8]) -> IntRead
-    ensures { λ r. ⌜ toldInt r ≡ fieldCount (columnsIn columns) (now (row .entry)) ⌝ }
+// The number of fields of a row, by its map alone; of the columns in the first `count` slots.
+pub fn field_count_packed(slots: &[u32; 64], count: usize, row: &[u8]) -> IntRead
+    ensures { λ r. ⌜ toldInt r ≡ fieldCount (packedFrom (min count 64) 0 (now (slots .entry))) (now (row .entry)) ⌝ }
 {
     if row.len() > LIMIT {
         return IntRead::Refused(Error {
@@ -361,8 +361,8 @@ pub fn field_count(columns: Columns, row: &[u8]) -> IntRead
             input: Input::Row,
         });
     }
-    let n = lesser(columns.count, 64);
-    let opened = open_row(&columns.codes, &columns.flags, &columns.maxima, n, row, 0);
+    let n = lesser(count, 64);
+    let opened = open_row(slots, n, row, 0);
     match opened {
         IntRead::Refused(e) => {
             let kind = e.kind;
@@ -373,9 +373,18 @@ pub fn field_count(columns: Columns, row: &[u8]) -> IntRead
             })
         }
         IntRead::Int(_) => {
-            let bits = count_nullable(&columns.codes, &columns.flags, &columns.maxima, n);
-            let fixed = count_always(&columns.codes, &columns.flags, &columns.maxima, n);
+            let bits = count_nullable(slots, n);
+            let fixed = count_always(slots, n);
             IntRead::Int(fixed + count_set(row, bits))
         }
     }
+}
+
+// The same of these columns.
+pub fn field_count(columns: Columns, row: &[u8]) -> IntRead
+    ensures { λ r. ⌜ toldInt r ≡ fieldCount (columnsIn columns) (now (row .entry)) ⌝ }
+{
+    let count = columns.count;
+    let slots = pack_all(columns);
+    field_count_packed(&slots, count, row)
 }

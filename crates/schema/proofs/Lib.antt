@@ -1,3 +1,5 @@
 pub mod Reading
 pub mod Running
 pub mod Tabled
+pub mod Flatly
+pub mod Slotted

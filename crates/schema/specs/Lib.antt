@@ -1,3 +1,4 @@
 pub mod Told
+pub mod Flat
 -- Inner.
 pub mod Runs

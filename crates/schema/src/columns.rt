@@ -1,8 +1,9 @@
-// The columns of a schema by value, out of the table that the reader filled.
+// The columns of a schema, out of the table that the reader filled: by value, and in slots of 32 bits.
 ghost use mathlib.Core.Path.{_≡_};
 ghost use mathlib.Core.List.{map};
 ghost use Prim.Native.Nat.{min};
 ghost use Rattle.column.specs.Layout.{layout};
+ghost use Rattle.column.specs.Packed.{packedFrom};
 ghost use Rattle.tree.specs.Schemas.{asColumn};
 ghost use Rattle.tree.specs.Table.{entriesIn};
 use crate::MOST_FILE_COLUMNS;
@@ -32,4 +33,18 @@ pub fn columns_in(table: &[u64; 512], start: usize, count: usize) -> Columns
         i += 1;
     }
     columns
+}
+
+// The same columns, each in a slot of 32 bits.
+pub fn slots_in(table: &[u64; 512], start: usize, count: usize, slots: &mut [u32; 64])
+    ensures { λ r. ⌜ packedFrom (min count 64) 0 (now (slots .exit)) ≡ map asColumn (entriesIn (min start 256) (min count 64) (now (table .entry))) ⌝ }
+{
+    let first = lesser(start, MOST_FILE_COLUMNS);
+    let n = lesser(count, MOST_COLUMNS);
+    *slots = [0u32; 64];
+    let mut i = 0;
+    while i < n {
+        slots[i] = (table[first + i] % 4_294_967_296) as u32;
+        i += 1;
+    }
 }

@@ -2,6 +2,7 @@
 // the writer in crate `numbers`.
 
 pub mod columns;
+pub mod flat;
 pub mod reader;
 pub mod runs;
 

@@ -1,5 +1,6 @@
 pub mod Laws
 pub mod Arrays
+pub mod Slots
 pub mod Found
 pub mod Errors
 pub mod Counting

@@ -1,23 +1,23 @@
 -- The columns, then the row.
 -- Assumes nothing.
 use mathlib.Core.Path.{sym, _∙_}
-use Rattle.adtg.proofs.Laws.{look-refused, look-found}
+use Rattle.adtg.proofs.Laws.{look-slots-refused, look-slots-found}
 use borrow.Author.Needs.{needs}
 use Rattle.adtg.proofs.rows.look_up.Statement.{statement}
 use Rattle.adtg.proofs.rows.look_up.Tie as tie
 
 returns : tie.Need-returns
 returns c =
-    let args = c .before .before .before .before .before .before .args in
-    let columns-for = c .before .before .before .columns-for in
-    sym (look-refused (args .row .now) (args .column) (columns-for .ensures) (c .before .found .given .1))
+    let args = c .before .before .before .before .before .before .before .args in
+    let slots-for = c .before .before .before .slots-for in
+    sym (look-slots-refused (args .row .now) (args .column) (slots-for .ensures) (c .before .e .given .1))
 
 returns-2 : tie.Need-returns-2
 returns-2 c =
-    let args = c .before .before .before .before .before .before .args in
-    let shared-slice-known = c .before .before .before .before .before .shared-slice-known in
-    let columns-for = c .before .before .before .columns-for in
-    c .look-up .ensures ∙ look-found (args .row .now) (args .column) (columns-for .ensures) (λ i. shared-slice-known .given i .fits) (c .before .enum-told .given .1)
+    let args = c .before .before .before .before .before .before .before .before .before .args in
+    let slots-for = c .before .before .before .before .before .slots-for in
+    let count = c .before .before .before .count in
+    c .look-up-packed .ensures ∙ look-slots-found (args .row .now) (args .column) (slots-for .ensures) (count .given .0 .0) (count .given .1)
 
 pub look-up-spec : {M : Type 1} → statement M
 look-up-spec =

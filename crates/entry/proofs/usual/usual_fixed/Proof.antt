@@ -18,6 +18,7 @@ returns-2 c =
       maximum = 0;
       head = fixed-usual (a .file .now) (a .code) (a .at) (c .before .if1 .left) (c .before .before .before .before .pre);
       holds = omega (arith, c .pack .ensures .0);
+      small = c .pack .ensures .1;
     }
 
 pub usual-fixed-spec : {M : Type 1} → statement M

@@ -20,6 +20,7 @@ returns-3 c =
       maximum = getD (a .file .now) (a .at + 1) 0;
       head = variable-one (a .file .now) (a .code) (a .at) (c .before .before .before .before .before .if1 .left) (c .before .before .before .before .before .before .before .before .pre) (omega (arith, w, c .before .before .if2 .left)) (omega (arith, w, c .before .if3 .taken));
       holds = omega (arith, w, c .pack .ensures .0);
+      small = c .pack .ensures .1;
     }
 
 returns-6 : tie.Need-returns-6
@@ -34,6 +35,7 @@ returns-6 c =
       maximum = (getD (a .file .now) (a .at + 1) 0 - 128) + 128 * getD (a .file .now) (a .at + 2) 0;
       head = variable-two (a .file .now) (a .code) (a .at) (c .before .before .before .before .before .before .before .before .before .if1 .left) (c .before .before .before .before .before .before .before .before .before .before .before .before .pre) (omega (arith, l .0, c .before .before .before .before .before .if3 .left)) (omega (arith, l .0, l .1)) (omega (arith, h, c .before .before .if4 .left)) (omega (arith, h, c .before .if5 .left));
       holds = omega (arith, l .0, h, c .pack2 .ensures .0);
+      small = c .pack2 .ensures .1;
     }
 
 pub usual-variable-spec : {M : Type 1} → statement M

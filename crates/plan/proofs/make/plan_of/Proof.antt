@@ -3,9 +3,9 @@
 use Prim.Native.Nat.{_-_}
 use mathlib.Core.Path.{refl, sym}
 use native.Mathlib.Omega.{arith}
-use Rattle.column.specs.Layout.{columnsFrom}
+use Rattle.column.specs.Packed.{packedFrom}
 use Rattle.column.proofs.Stops.{width-few}
-use Rattle.walk.proofs.Arrays.{length-from}
+use Rattle.walk.proofs.Slots.{length-from}
 use Rattle.walk.specs.Presence.{one}
 use Rattle.plan.proofs.Made.{one-few}
 use Rattle.plan.proofs.Fill.{Filling, fill-start, fill-stop, mask-room, fill-plain, fill-end}
@@ -14,16 +14,16 @@ use Rattle.plan.proofs.make.plan_of.Statement.{statement}
 use Rattle.plan.proofs.make.plan_of.Tie as tie
 
 abbrev Inv-loop : tie.InvT-loop
-Inv-loop codes flags maxima n map numbers₀ gap₀ bit₀ stops₀ first₀ mask₀ i₀ numbers gap bit stops first mask i = Filling (columnsFrom n 0 codes flags maxima) numbers gap bit stops first mask i
+Inv-loop slots n map numbers₀ gap₀ bit₀ stops₀ first₀ mask₀ i₀ numbers gap bit stops first mask i = Filling (packedFrom n 0 slots) numbers gap bit stops first mask i
 
 abbrev μ-loop : tie.MeasureT-loop
-μ-loop codes flags maxima n map numbers₀ gap₀ bit₀ stops₀ first₀ mask₀ i₀ numbers gap bit stops first mask i = n - i
+μ-loop slots n map numbers₀ gap₀ bit₀ stops₀ first₀ mask₀ i₀ numbers gap bit stops first mask i = n - i
 
 loop-holds : tie.Need-loop-holds Inv-loop μ-loop
 loop-holds c =
     let args = c .args in
     let pre = c .pre in
-    fill-start (columnsFrom (args .n) 0 (args .codes .now) (args .flags .now) (args .maxima .now)) (omega (arith, (length-from (args .codes .now) (args .flags .now) (args .maxima .now) (args .n) 0), pre .0)) (pre .1)
+    fill-start (packedFrom (args .n) 0 (args .slots .now)) (omega (arith, (length-from (args .slots .now) (args .n) 0), pre .0)) (pre .1)
 
 number-of-requires : tie.Need-number-of-requires Inv-loop μ-loop
 number-of-requires c κs =
@@ -55,7 +55,7 @@ loop-again c =
     let if1 = c .before .before .before .if1 in
     let stop-word = c .before .before .stop-word in
     let the-one = c .one in
-    fill-stop (args .codes .now) (args .flags .now) (args .maxima .now) (args .n) (pre .0) (loop .inv) (loop-test .taken) (column-of .result) (column-of .ensures) (number-of .result) (number-of .ensures) (is-nullable .result) (is-nullable .ensures) (the-one .result) (the-one .ensures) (is-stop .ensures) (if1 .taken) (stop-word .result) (stop-word .ensures) (c .before .first-of .ensures)
+    fill-stop (args .slots .now) (args .n) (pre .0) (loop .inv) (loop-test .taken) (column-of .result) (column-of .ensures) (number-of .result) (number-of .ensures) (is-nullable .result) (is-nullable .ensures) (the-one .result) (the-one .ensures) (is-stop .ensures) (if1 .taken) (stop-word .result) (stop-word .ensures) (c .before .first-of .ensures)
 
 add-mask : tie.Need-add-mask Inv-loop μ-loop
 add-mask c =
@@ -67,7 +67,7 @@ add-mask c =
     let is-nullable = c .before .before .before .before .before .is-nullable in
     let number-of = c .before .before .before .number-of in
     let is-stop = c .before .before .is-stop in
-    omega (arith, mask-room (args .codes .now) (args .flags .now) (args .maxima .now) (args .n) (pre .0) (loop .inv) (loop-test .taken) (column-of .result) (column-of .ensures) (number-of .result) (number-of .ensures) (is-nullable .result) (is-nullable .ensures) (one (is-nullable .result)) refl (is-stop .ensures) (c .before .if1 .left) (c .chapter-bit .ensures))
+    omega (arith, mask-room (args .slots .now) (args .n) (pre .0) (loop .inv) (loop-test .taken) (column-of .result) (column-of .ensures) (number-of .result) (number-of .ensures) (is-nullable .result) (is-nullable .ensures) (one (is-nullable .result)) refl (is-stop .ensures) (c .before .if1 .left) (c .chapter-bit .ensures))
 
 add-gap : tie.Need-add-gap Inv-loop μ-loop
 add-gap c =
@@ -99,14 +99,14 @@ loop-again-2 c =
     let is-stop = c .before .before .before .is-stop in
     let if1 = c .before .before .if1 in
     let one2 = c .one2 in
-    fill-plain (args .codes .now) (args .flags .now) (args .maxima .now) (args .n) (pre .0) (loop .inv) (loop-test .taken) (column-of .result) (column-of .ensures) (number-of .result) (number-of .ensures) (is-nullable .result) (is-nullable .ensures) (one2 .result) (one2 .ensures) (is-stop .ensures) (if1 .left) (c .before .chapter-bit .ensures) (width .ensures)
+    fill-plain (args .slots .now) (args .n) (pre .0) (loop .inv) (loop-test .taken) (column-of .result) (column-of .ensures) (number-of .result) (number-of .ensures) (is-nullable .result) (is-nullable .ensures) (one2 .result) (one2 .ensures) (is-stop .ensures) (if1 .left) (c .before .chapter-bit .ensures) (width .ensures)
 
 returns : tie.Need-returns Inv-loop μ-loop
 returns c =
     let args = c .before .before .args in
     let pre = c .before .before .pre in
     let loop = c .before .loop in
-    fill-end (columnsFrom (args .n) 0 (args .codes .now) (args .flags .now) (args .maxima .now)) (loop .inv) (omega (arith, (length-from (args .codes .now) (args .flags .now) (args .maxima .now) (args .n) 0), c .loop-test .left)) (sym (length-from (args .codes .now) (args .flags .now) (args .maxima .now) (args .n) 0)) (pre .1)
+    fill-end (packedFrom (args .n) 0 (args .slots .now)) (loop .inv) (omega (arith, (length-from (args .slots .now) (args .n) 0), c .loop-test .left)) (sym (length-from (args .slots .now) (args .n) 0)) (pre .1)
 
 pub plan-of-spec : {M : Type 1} → statement M
 plan-of-spec =
