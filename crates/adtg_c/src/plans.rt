@@ -37,9 +37,9 @@ pub extern "C" fn adtg_make_plan(file: &[u8], number: usize) -> PlanAnswer
 {
     let read = make_plan(file, number);
     let found = read.found;
-    let plan = read.plan;
     match found {
         Found::Refused(e) => {
+            let plan = read.plan;
             let kind = e.kind;
             let input = e.input;
             PlanAnswer {
@@ -49,12 +49,15 @@ pub extern "C" fn adtg_make_plan(file: &[u8], number: usize) -> PlanAnswer
                 plan,
             }
         }
-        Found::Yes => PlanAnswer {
-            code: 0,
-            offset: 0,
-            input: 0,
-            plan,
-        },
+        Found::Yes => {
+            let plan = read.plan;
+            PlanAnswer {
+                code: 0,
+                offset: 0,
+                input: 0,
+                plan,
+            }
+        }
     }
 }
 

@@ -4,7 +4,7 @@ use Prim.Native.Nat.{ℕ, zero, suc, _+_, _*_, _<_}
 use mathlib.Core.List.{List, [], _∷_, _++_}
 use mathlib.Core.Path.{_≡_, refl, sym, ap, _∙_}
 use native.Mathlib.Omega.{arith}
-use lib.ListN.{length, getD, set, List·getD-append}
+use lib.ListN.{length-append, length, getD, set, List·getD-append}
 use lib.Seq.{getD-append-add, set-append-left}
 use Rattle.column.specs.declared.column.Column.{Column}
 use Rattle.column.specs.Columns.{width}
@@ -141,3 +141,8 @@ set-counts columns stops counts map chapters =
     ap (λ (l : List ℕ). set (set l 129 map) 130 chapters) (set-last columns stops 0 0 0 counts 0)
     ∙ ap (λ (l : List ℕ). set l 130 chapters) (set-last columns stops counts 0 0 map 1)
     ∙ set-last columns stops counts map 0 chapters 2
+
+-- a plan's numbers are so many
+pub laid-long : (columns stops : List ℕ) (counts map chapters : ℕ) → length (laid columns stops counts map chapters) ≡ 131
+unfolding laid
+laid-long columns stops counts map chapters = simp (length-append, length-padded)

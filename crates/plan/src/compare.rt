@@ -1,10 +1,8 @@
 // Plans are compared in all that they hold.
-ghost use mathlib.Core.Path.{_≡_};
-ghost use mathlib.Core.Bool.{true};
 ghost use Rattle.wire.specs.Read.{toldMatch};
 ghost use Prim.Native.Nat.{min};
 ghost use Rattle.column.specs.Packed.{packedFrom};
-ghost use Rattle.plan.specs.Compare.{Compared};
+ghost use Rattle.plan.specs.Compare.{Compared, Tells};
 use crate::make::make;
 use crate::plan::Plan;
 use wire::bytes::Matched;
@@ -12,25 +10,25 @@ use wire::error::Error;
 use wire::error::ErrorKind;
 use wire::error::Input;
 
-// Whether two plans are the same.
-fn same(a: Plan, b: Plan) -> bool
-    ensures { λ r. ⌜ (r ≡ true → a ≡ b) × (a ≡ b → r ≡ true) ⌝ }
+// Whether the numbers of two plans are the same. What differs is gathered and asked for once, so that several are compared at a time.
+fn same<'a>(a: &'a [usize; 131], b: &'a [usize; 131]) -> bool
+    ensures { λ r. ⌜ Tells r (now (a .entry)) (now (b .entry)) ⌝ }
 {
+    let mut differs: usize = 0;
     let mut i = 0;
     while i < 131 {
-        if a.numbers[i] != b.numbers[i] {
-            return false;
-        }
+        differs = differs | (a[i] ^ b[i]);
         i += 1;
     }
-    true
+    differs == 0
 }
 
 // Whether a plan is that of the columns in the first `count` slots; else error 17.
 pub fn check(plan: Plan, slots: &[u32; 64], count: usize) -> Matched
     ensures { λ r. ⌜ Compared plan (packedFrom (min count 64) 0 (now (slots .entry))) (toldMatch r) ⌝ }
 {
-    if same(plan, make(slots, count)) {
+    let made = make(slots, count);
+    if same(&plan.numbers, &made.numbers) {
         return Matched::Same;
     }
     Matched::Refused(Error {

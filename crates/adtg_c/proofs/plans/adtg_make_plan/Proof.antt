@@ -8,13 +8,13 @@ use Rattle.adtg_c.proofs.plans.adtg_make_plan.Tie as tie
 returns : tie.Need-returns
 returns c =
     let make-plan = c .before .before .before .before .before .before .make-plan in
-    let found = c .before .before .before .found in
+    let found = c .before .before .before .before .found in
     made-refused (make-plan .ensures) (found .given .0 .0) (found .given .1) (c .before .code .ensures) (c .number .ensures)
 
 returns-2 : tie.Need-returns-2
 returns-2 c =
     let make-plan = c .before .before .before .make-plan in
-    made-found (make-plan .ensures) (c .enum-told .given .1)
+    made-found (make-plan .ensures) (c .before .enum-told .given .1)
 
 pub adtg-make-plan-spec : {M : Type 1} → statement M
 adtg-make-plan-spec =
