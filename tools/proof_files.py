@@ -183,6 +183,16 @@ def need_lines(block, name, head, args, known, defs):
     return out + [f'{name} {args} ='] + ['    ' + line for line in lines] + ['']
 
 
+def filled(items, width=140):
+    """Items side by side, in lines of up to so many characters."""
+    lines = ['']
+    for item in items:
+        if lines[-1] and len(lines[-1]) + 1 + len(item) > width:
+            lines.append('')
+        lines[-1] = (lines[-1] + ' ' + item).strip()
+    return lines
+
+
 def write(block, skeleton, shared):
     fields, given = records(block['fn'])
     defs = block['defs'] + shared
@@ -206,7 +216,7 @@ def write(block, skeleton, shared):
     items = re.findall(r'[^\s()]+', rest)
     closing = rest.count(')') - rest.count('(')
     items = [f'(λ {takes[t]}. search needs)' if t in takes and t not in block['needs'] else t for t in items]
-    out += [head + 'tie.spec'] + ['    ' + t for t in items]
+    out += [head + 'tie.spec'] + ['    ' + line for line in filled(items)]
     os.makedirs(os.path.dirname(proof(block['fn'])), exist_ok=True)
     open(proof(block['fn']), 'w').write('\n'.join(out) + ')' * closing + '\n')
     print('wrote', block['fn'])

@@ -21,7 +21,4 @@ returns-2 c =
 
 pub about-spec : {M : Type 1} → statement M
 about-spec = tie.close (tie.spec
-    (λ c. search needs)
-    (λ c. search needs)
-    returns
-    returns-2)
+    (λ c. search needs) (λ c. search needs) returns returns-2)

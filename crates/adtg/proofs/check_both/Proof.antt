@@ -19,7 +19,4 @@ returns-2 c =
 
 pub check-both-spec : {M : Type 1} → statement M
 check-both-spec = tie.close (tie.spec
-    (λ c. search needs)
-    (λ c. search needs)
-    returns
-    returns-2)
+    (λ c. search needs) (λ c. search needs) returns returns-2)

@@ -16,5 +16,4 @@ returns-2 c = simp (le-leb (c .before .args .size) limit (omega (arith, c .if1 .
 
 pub check-size-spec : {M : Type 1} → statement M
 check-size-spec = tie.close (tie.spec
-    returns
-    returns-2)
+    returns returns-2)

@@ -15,6 +15,4 @@ returns c =
 
 pub columns-for-spec : {M : Type 1} → statement M
 columns-for-spec = tie.close (tie.spec
-    (λ c κs. search needs)
-    (λ c κs. search needs)
-    returns)
+    (λ c κs. search needs) (λ c κs. search needs) returns)

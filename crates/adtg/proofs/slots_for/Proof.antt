@@ -17,6 +17,4 @@ returns c =
 
 pub slots-for-spec : {M : Type 1} → statement M
 slots-for-spec = tie.close (tie.spec
-    (λ c κs. search needs)
-    (λ c κs. search needs)
-    returns)
+    (λ c κs. search needs) (λ c κs. search needs) returns)

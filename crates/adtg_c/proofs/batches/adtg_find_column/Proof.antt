@@ -12,7 +12,4 @@ returns c =
 pub adtg-find-column-spec : {M : Type 1} → statement M
 adtg-find-column-spec =
     tie.close (tie.spec
-    (λ c κs. search needs)
-    (λ c κs. search needs)
-    (λ c. search needs)
-    returns)
+    (λ c κs. search needs) (λ c κs. search needs) (λ c. search needs) returns)

@@ -12,7 +12,4 @@ pub adtg-write-header-short-spec : {M : Type 1} → statement M
 adtg-write-header-short-spec =
     tie.close
     (tie.spec
-    (λ c κs. search needs)
-    (λ c κs. search needs)
-    (λ c. search needs)
-    returns)
+    (λ c κs. search needs) (λ c κs. search needs) (λ c. search needs) returns)

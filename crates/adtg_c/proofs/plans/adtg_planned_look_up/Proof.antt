@@ -11,6 +11,4 @@ returns c = c .found-answer .ensures ∙ ap foundAnswer (c .before .look-lent .e
 
 pub adtg-planned-look-up-spec : {M : Type 1} → statement M
 adtg-planned-look-up-spec = tie.close (tie.spec
-    (λ c κs. search needs)
-    (λ c κs. search needs)
-    returns)
+    (λ c κs. search needs) (λ c κs. search needs) returns)

@@ -12,6 +12,4 @@ returns c =
 
 pub adtg-current-spec : {M : Type 1} → statement M
 adtg-current-spec = tie.close (tie.spec
-    (λ c κs. search needs)
-    (λ c κs. search needs)
-    returns)
+    (λ c κs. search needs) (λ c κs. search needs) returns)

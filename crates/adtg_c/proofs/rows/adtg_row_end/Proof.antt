@@ -12,6 +12,4 @@ returns c =
 
 pub adtg-row-end-spec : {M : Type 1} → statement M
 adtg-row-end-spec = tie.close (tie.spec
-    (λ c κs. search needs)
-    (λ c κs. search needs)
-    returns)
+    (λ c κs. search needs) (λ c κs. search needs) returns)

@@ -13,7 +13,4 @@ returns c =
 pub adtg-write-update-spec : {M : Type 1} → statement M
 adtg-write-update-spec =
     tie.close (tie.spec
-    (λ c κs. search needs)
-    (λ c κs. search needs)
-    (λ c. search needs)
-    returns)
+    (λ c κs. search needs) (λ c κs. search needs) (λ c. search needs) returns)

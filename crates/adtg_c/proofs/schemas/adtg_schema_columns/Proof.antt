@@ -11,6 +11,4 @@ pub adtg-schema-columns-spec : {M : Type 1} → statement M
 adtg-schema-columns-spec =
     tie.close
     (tie.spec
-    (λ c κs. search needs)
-    (λ c κs. search needs)
-    returns)
+    (λ c κs. search needs) (λ c κs. search needs) returns)

@@ -11,7 +11,4 @@ pub adtg-schema-numbers-spec : {M : Type 1} → statement M
 adtg-schema-numbers-spec =
     tie.close
     (tie.spec
-    (λ c κs. search needs)
-    (λ c κs. search needs)
-    (λ c. search needs)
-    returns)
+    (λ c κs. search needs) (λ c κs. search needs) (λ c. search needs) returns)

@@ -12,7 +12,4 @@ returns c =
 pub adtg-read-section-spec : {M : Type 1} → statement M
 adtg-read-section-spec =
     tie.close (tie.spec
-    (λ c κs. search needs)
-    (λ c κs. search needs)
-    (λ c. search needs)
-    returns)
+    (λ c κs. search needs) (λ c κs. search needs) (λ c. search needs) returns)

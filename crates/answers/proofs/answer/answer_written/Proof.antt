@@ -18,8 +18,4 @@ pub answer-written-spec : {M : Type 1} → statement M
 answer-written-spec =
     tie.close
     (tie.spec
-    (λ c. search needs)
-    (λ c κs. search needs)
-    (λ c. search needs)
-    returns
-    returns-2)
+    (λ c. search needs) (λ c κs. search needs) (λ c. search needs) returns returns-2)

@@ -78,19 +78,5 @@ pub find-lent-spec : {M : Type 1} → statement M
 find-lent-spec =
     tie.close
     (tie.spec
-    returns
-    (λ c. search needs)
-    (λ c κs. search needs)
-    (λ c. search needs)
-    (λ c. search needs)
-    returns-2
-    (λ c. search needs)
-    (λ c. search needs)
-    slice-aggregate-copy-numbers
-    (λ c κs. search needs)
-    same-length
-    returns-3
-    (λ c κs. search needs)
-    returns-4
-    (λ c. search needs)
-    returns-5)
+    returns (λ c. search needs) (λ c κs. search needs) (λ c. search needs) (λ c. search needs) returns-2 (λ c. search needs) (λ c. search needs)
+    slice-aggregate-copy-numbers (λ c κs. search needs) same-length returns-3 (λ c κs. search needs) returns-4 (λ c. search needs) returns-5)

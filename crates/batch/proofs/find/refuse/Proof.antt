@@ -21,8 +21,4 @@ returns-2 c =
 
 pub refuse-spec : {M : Type 1} → statement M
 refuse-spec = tie.close (tie.spec
-    (λ c κs. search needs)
-    (λ c κs. search needs)
-    (λ c. search needs)
-    returns
-    returns-2)
+    (λ c κs. search needs) (λ c κs. search needs) (λ c. search needs) returns returns-2)

@@ -83,21 +83,6 @@ pub span-at-spec : {M : Type 1} → statement M
 span-at-spec =
     tie.close
     (tie.spec
-    (λ c κs. search needs)
-    (λ c. search needs)
-    (λ c. search needs)
-    (λ c. search needs)
-    (λ c κs. search needs)
-    (λ c. search needs)
-    refuse-requires
-    (λ c. search needs)
-    (λ c. search needs)
-    (λ c. search needs)
-    add-t14
-    cast-t15
-    add-t16
-    cast-t17
-    returns
-    returns-2
-    returns-3
+    (λ c κs. search needs) (λ c. search needs) (λ c. search needs) (λ c. search needs) (λ c κs. search needs) (λ c. search needs)
+    refuse-requires (λ c. search needs) (λ c. search needs) (λ c. search needs) add-t14 cast-t15 add-t16 cast-t17 returns returns-2 returns-3
     returns-4)

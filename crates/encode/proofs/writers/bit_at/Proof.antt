@@ -18,6 +18,4 @@ returns-2 c =
 
 pub bit-at-spec : {M : Type 1} → statement M
 bit-at-spec = tie.close (tie.spec
-    (λ c. search needs)
-    returns
-    returns-2)
+    (λ c. search needs) returns returns-2)

@@ -38,9 +38,4 @@ pub maps-size-spec : {M : Type 1} → statement M
 maps-size-spec =
     tie.close
     (tie.spec
-    (λ c κs. search needs)
-    mul-result
-    returns
-    (λ c κs. search needs)
-    (λ c κs. search needs)
-    returns-2)
+    (λ c κs. search needs) mul-result returns (λ c κs. search needs) (λ c κs. search needs) returns-2)

@@ -25,8 +25,4 @@ returns-3 c =
 pub null-stands-spec : {M : Type 1} → statement M
 null-stands-spec =
     tie.close (tie.spec
-    (λ c κs. search needs)
-    returns
-    returns-2
-    (λ c κs. search needs)
-    returns-3)
+    (λ c κs. search needs) returns returns-2 (λ c κs. search needs) returns-3)

@@ -77,17 +77,5 @@ pub put-fields-spec : {M : Type 1} → statement M
 put-fields-spec =
     tie.close
     (tie.spec
-    Inv-loop
-    μ-loop
-    loop-holds
-    (λ c κs. search needs)
-    sub-put-entry
-    part-put-entry-start
-    (λ c. search needs)
-    put-entry-requires
-    add-position
-    (λ c. search needs)
-    (λ c. search needs)
-    loop-again
-    same-length
-    returns)
+    Inv-loop μ-loop loop-holds (λ c κs. search needs) sub-put-entry part-put-entry-start (λ c. search needs) put-entry-requires add-position
+    (λ c. search needs) (λ c. search needs) loop-again same-length returns)

@@ -30,8 +30,4 @@ returns c =
 pub put-map-spec : {M : Type 1} → statement M
 put-map-spec =
     tie.close (tie.spec
-    (λ c κs. search needs)
-    (λ c κs. search needs)
-    put-bytes-requires
-    (λ c. search needs)
-    returns)
+    (λ c κs. search needs) (λ c κs. search needs) put-bytes-requires (λ c. search needs) returns)

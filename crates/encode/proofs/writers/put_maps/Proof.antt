@@ -48,12 +48,5 @@ pub put-maps-spec : {M : Type 1} → statement M
 put-maps-spec =
     tie.close
     (tie.spec
-    (λ c κs. search needs)
-    add-put-map
-    (λ c κs. search needs)
-    add-result
-    (λ c. search needs)
-    returns
-    (λ c κs. search needs)
-    (λ c. search needs)
+    (λ c κs. search needs) add-put-map (λ c κs. search needs) add-result (λ c. search needs) returns (λ c κs. search needs) (λ c. search needs)
     returns-2)

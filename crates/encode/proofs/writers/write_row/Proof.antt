@@ -123,22 +123,6 @@ pub write-row-spec : {M : Type 1} → statement M
 write-row-spec =
     tie.close
     (tie.spec
-    returns
-    returns-2
-    (λ c. search needs)
-    returns-3
-    (λ c κs. search needs)
-    (λ c κs. search needs)
-    (λ c. search needs)
-    (λ c. search needs)
-    (λ c κs. search needs)
-    add-size
-    (λ c. search needs)
-    returns-4
-    put-maps-requires
-    add-put-fields
-    put-fields-requires
-    returns-5
-    (λ c. search needs)
-    returns-6
-    returns-7)
+    returns returns-2 (λ c. search needs) returns-3 (λ c κs. search needs) (λ c κs. search needs) (λ c. search needs) (λ c. search needs)
+    (λ c κs. search needs) add-size (λ c. search needs) returns-4 put-maps-requires add-put-fields put-fields-requires returns-5
+    (λ c. search needs) returns-6 returns-7)

@@ -38,14 +38,5 @@ pub patient-at-spec : {M : Type 1} → statement M
 patient-at-spec =
     tie.close
     (tie.spec
-    (λ c κs. search needs)
-    (λ c. search needs)
-    (λ c. search needs)
-    (λ c. search needs)
-    cast-t10
-    cast-t11
-    cast-t12
-    (λ c κs. search needs)
-    (λ c. search needs)
-    (λ c. search needs)
-    returns-3)
+    (λ c κs. search needs) (λ c. search needs) (λ c. search needs) (λ c. search needs) cast-t10 cast-t11 cast-t12 (λ c κs. search needs)
+    (λ c. search needs) (λ c. search needs) returns-3)

@@ -41,9 +41,4 @@ pub check-asked-spec : {M : Type 1} → statement M
 check-asked-spec =
     tie.close
     (tie.spec
-    returns
-    (λ c. search needs)
-    (λ c κs. search needs)
-    returns-2
-    returns-3
-    returns-4)
+    returns (λ c. search needs) (λ c κs. search needs) returns-2 returns-3 returns-4)

@@ -19,6 +19,4 @@ returns c =
 
 pub field-part-spec : {M : Type 1} → statement M
 field-part-spec = tie.close (tie.spec
-    (λ c κs. search needs)
-    part-found-requires
-    returns)
+    (λ c κs. search needs) part-found-requires returns)

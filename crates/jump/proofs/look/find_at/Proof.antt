@@ -49,11 +49,4 @@ pub find-at-spec : {M : Type 1} → statement M
 find-at-spec =
     tie.close
     (tie.spec
-    (λ c κs. search needs)
-    (λ c κs. search needs)
-    find-variable-requires
-    returns
-    (λ c κs. search needs)
-    (λ c. search needs)
-    returns-2
-    returns-3)
+    (λ c κs. search needs) (λ c κs. search needs) find-variable-requires returns (λ c κs. search needs) (λ c. search needs) returns-2 returns-3)

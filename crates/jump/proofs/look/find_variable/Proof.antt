@@ -34,10 +34,4 @@ pub find-variable-spec : {M : Type 1} → statement M
 find-variable-spec =
     tie.close
     (tie.spec
-    (λ c κs. search needs)
-    (λ c. search needs)
-    (λ c κs. search needs)
-    (λ c. search needs)
-    add-t9
-    returns
-    returns-2)
+    (λ c κs. search needs) (λ c. search needs) (λ c κs. search needs) (λ c. search needs) add-t9 returns returns-2)

@@ -51,10 +51,4 @@ pub follow-spec : {M : Type 1} → statement M
 follow-spec =
     tie.close
     (tie.spec
-    (λ c κs. search needs)
-    pass-few-requires
-    (λ c. search needs)
-    (λ c. search needs)
-    pass-rest-requires
-    returns
-    returns-2)
+    (λ c κs. search needs) pass-few-requires (λ c. search needs) (λ c. search needs) pass-rest-requires returns returns-2)

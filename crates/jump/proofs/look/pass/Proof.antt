@@ -75,16 +75,5 @@ pub pass-spec : {M : Type 1} → statement M
 pass-spec =
     tie.close
     (tie.spec
-    (λ c κs. search needs)
-    add-at
-    (λ c κs. search needs)
-    (λ c κs. search needs)
-    add-hop
-    hop-requires
-    returns
-    returns-2
-    (λ c κs. search needs)
-    (λ c κs. search needs)
-    mul-t13
-    add-t14
-    returns-3)
+    (λ c κs. search needs) add-at (λ c κs. search needs) (λ c κs. search needs) add-hop hop-requires returns returns-2 (λ c κs. search needs)
+    (λ c κs. search needs) mul-t13 add-t14 returns-3)

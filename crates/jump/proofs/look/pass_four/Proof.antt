@@ -43,13 +43,5 @@ pub pass-four-spec : {M : Type 1} → statement M
 pass-four-spec =
     tie.close
     (tie.spec
-    (λ c. search needs)
-    (λ c. search needs)
-    (λ c. search needs)
-    pass-requires
-    (λ c. search needs)
-    (λ c. search needs)
-    (λ c. search needs)
-    pass-three-requires
-    returns
-    returns-2)
+    (λ c. search needs) (λ c. search needs) (λ c. search needs) pass-requires (λ c. search needs) (λ c. search needs) (λ c. search needs)
+    pass-three-requires returns returns-2)

@@ -43,13 +43,5 @@ pub pass-three-spec : {M : Type 1} → statement M
 pass-three-spec =
     tie.close
     (tie.spec
-    (λ c. search needs)
-    (λ c. search needs)
-    (λ c. search needs)
-    pass-requires
-    (λ c. search needs)
-    (λ c. search needs)
-    (λ c. search needs)
-    pass-two-requires
-    returns
-    returns-2)
+    (λ c. search needs) (λ c. search needs) (λ c. search needs) pass-requires (λ c. search needs) (λ c. search needs) (λ c. search needs)
+    pass-two-requires returns returns-2)

@@ -45,16 +45,5 @@ pub pass-two-spec : {M : Type 1} → statement M
 pass-two-spec =
     tie.close
     (tie.spec
-    (λ c. search needs)
-    (λ c. search needs)
-    (λ c. search needs)
-    pass-requires
-    (λ c. search needs)
-    (λ c. search needs)
-    (λ c. search needs)
-    (λ c. search needs)
-    (λ c. search needs)
-    (λ c. search needs)
-    pass-requires-2
-    returns
-    returns-2)
+    (λ c. search needs) (λ c. search needs) (λ c. search needs) pass-requires (λ c. search needs) (λ c. search needs) (λ c. search needs)
+    (λ c. search needs) (λ c. search needs) (λ c. search needs) pass-requires-2 returns returns-2)

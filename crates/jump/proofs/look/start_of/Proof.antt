@@ -17,8 +17,4 @@ returns-2 c =
 
 pub start-of-spec : {M : Type 1} → statement M
 start-of-spec = tie.close (tie.spec
-    (λ c κs. search needs)
-    (λ c. search needs)
-    (λ c. search needs)
-    returns
-    returns-2)
+    (λ c κs. search needs) (λ c. search needs) (λ c. search needs) returns returns-2)

@@ -44,14 +44,5 @@ pub add-number-spec : {M : Type 1} → statement M
 add-number-spec =
     tie.close
     (tie.spec
-    (λ c κs. search needs)
-    (λ c. search needs)
-    (λ c. search needs)
-    (λ c κs. search needs)
-    add-copy-into
-    (λ c. search needs)
-    (λ c κs. search needs)
-    add-result
-    add-result-2
-    (λ c. search needs)
-    returns)
+    (λ c κs. search needs) (λ c. search needs) (λ c. search needs) (λ c κs. search needs) add-copy-into (λ c. search needs)
+    (λ c κs. search needs) add-result add-result-2 (λ c. search needs) returns)

@@ -58,17 +58,5 @@ pub few-spec : {M : Type 1} → statement M
 few-spec =
     tie.close
     (tie.spec
-    Inv-loop
-    μ-loop
-    loop-holds
-    (λ c. search needs)
-    (λ c κs. search needs)
-    (λ c. search needs)
-    (λ c. search needs)
-    mul-bits-2
-    add-bits
-    (λ c. search needs)
-    (λ c. search needs)
-    (λ c. search needs)
-    loop-again
-    returns)
+    Inv-loop μ-loop loop-holds (λ c. search needs) (λ c κs. search needs) (λ c. search needs) (λ c. search needs) mul-bits-2 add-bits
+    (λ c. search needs) (λ c. search needs) (λ c. search needs) loop-again returns)

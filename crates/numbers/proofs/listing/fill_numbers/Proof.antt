@@ -65,21 +65,5 @@ pub fill-numbers-spec : {M : Type 1} → statement M
 fill-numbers-spec =
     tie.close
     (tie.spec
-    Inv-loop
-    μ-loop
-    loop-holds
-    same-length
-    returns
-    (λ c κs. search needs)
-    (λ c. search needs)
-    same-length-2
-    returns-2
-    (λ c. search needs)
-    cast-table
-    (λ c. search needs)
-    (λ c. search needs)
-    (λ c. search needs)
-    loop-less
-    loop-again
-    same-length-3
-    returns-3)
+    Inv-loop μ-loop loop-holds same-length returns (λ c κs. search needs) (λ c. search needs) same-length-2 returns-2 (λ c. search needs)
+    cast-table (λ c. search needs) (λ c. search needs) (λ c. search needs) loop-less loop-again same-length-3 returns-3)

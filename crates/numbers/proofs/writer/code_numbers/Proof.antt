@@ -43,18 +43,5 @@ pub code-numbers-spec : {M : Type 1} → statement M
 code-numbers-spec =
     tie.close
     (tie.spec
-    Inv-loop
-    μ-loop
-    loop-holds
-    (λ c κs. search needs)
-    same-length
-    returns
-    (λ c. search needs)
-    (λ c. search needs)
-    (λ c κs. search needs)
-    add-at
-    (λ c. search needs)
-    (λ c. search needs)
-    loop-again
-    same-length-2
-    returns-2)
+    Inv-loop μ-loop loop-holds (λ c κs. search needs) same-length returns (λ c. search needs) (λ c. search needs) (λ c κs. search needs) add-at
+    (λ c. search needs) (λ c. search needs) loop-again same-length-2 returns-2)

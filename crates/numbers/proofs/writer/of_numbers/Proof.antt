@@ -21,6 +21,4 @@ pub of-numbers-spec : {M : Type 1} → statement M
 of-numbers-spec =
     tie.close
     (tie.spec
-    (λ c κs. search needs)
-    returns
-    returns-2)
+    (λ c κs. search needs) returns returns-2)

@@ -44,19 +44,6 @@ pub write-file-spec : {M : Type 1} → statement M
 write-file-spec =
     tie.close
     (tie.spec
-    returns
-    (λ c. search needs)
-    (λ c κs. search needs)
-    (λ c. search needs)
-    slice-aggregate-read-file
-    (λ c κs. search needs)
-    (λ c. search needs)
-    (λ c κs. search needs)
-    (λ c. search needs)
-    returns-2
-    (λ c. search needs)
-    slice-aggregate-copy-into
-    (λ c κs. search needs)
-    returns-3
-    (λ c. search needs)
-    returns-4)
+    returns (λ c. search needs) (λ c κs. search needs) (λ c. search needs) slice-aggregate-read-file (λ c κs. search needs) (λ c. search needs)
+    (λ c κs. search needs) (λ c. search needs) returns-2 (λ c. search needs) slice-aggregate-copy-into (λ c κs. search needs) returns-3
+    (λ c. search needs) returns-4)

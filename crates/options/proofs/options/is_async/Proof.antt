@@ -17,5 +17,4 @@ pub is-async-spec : {M : Type 1} → statement M
 is-async-spec =
     tie.close
     (tie.spec
-    returns
-    returns-2)
+    returns returns-2)

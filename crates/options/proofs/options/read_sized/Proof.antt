@@ -52,14 +52,5 @@ pub read-sized-spec : {M : Type 1} → statement M
 read-sized-spec =
     tie.close
     (tie.spec
-    (λ c κs. search needs)
-    returns
-    returns-2
-    (λ c. search needs)
-    (λ c κs. search needs)
-    (λ c. search needs)
-    (λ c. search needs)
-    add-read-rest
-    (λ c κs. search needs)
-    returns-3
-    returns-4)
+    (λ c κs. search needs) returns returns-2 (λ c. search needs) (λ c κs. search needs) (λ c. search needs) (λ c. search needs) add-read-rest
+    (λ c κs. search needs) returns-3 returns-4)

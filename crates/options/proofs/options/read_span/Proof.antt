@@ -53,14 +53,5 @@ pub read-span-spec : {M : Type 1} → statement M
 read-span-spec =
     tie.close
     (tie.spec
-    (λ c κs. search needs)
-    returns
-    add-start
-    (λ c κs. search needs)
-    (λ c. search needs)
-    (λ c. search needs)
-    (λ c κs. search needs)
-    returns-2
-    add-t17
-    returns-3
-    returns-4)
+    (λ c κs. search needs) returns add-start (λ c κs. search needs) (λ c. search needs) (λ c. search needs) (λ c κs. search needs) returns-2
+    add-t17 returns-3 returns-4)

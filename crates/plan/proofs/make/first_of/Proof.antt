@@ -14,5 +14,4 @@ returns-2 c = rw (ne-eqb _ _ (c .if1 .left)) refl
 
 pub first-of-spec : {M : Type 1} → statement M
 first-of-spec = tie.close (tie.spec
-    returns
-    returns-2)
+    returns returns-2)

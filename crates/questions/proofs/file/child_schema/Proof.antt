@@ -46,11 +46,4 @@ pub child-schema-spec : {M : Type 1} → statement M
 child-schema-spec =
     tie.close
     (tie.spec
-    (λ c κs. search needs)
-    (λ c. search needs)
-    (λ c κs. search needs)
-    (λ c. search needs)
-    child-number-requires
-    returns
-    returns-2
-    returns-3)
+    (λ c κs. search needs) (λ c. search needs) (λ c κs. search needs) (λ c. search needs) child-number-requires returns returns-2 returns-3)

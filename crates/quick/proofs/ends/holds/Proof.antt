@@ -19,7 +19,4 @@ returns-3 c = λ e. (omega (arith, c .before .if1 .left), leb-true _ _ e)
 
 pub holds-spec : {M : Type 1} → statement M
 holds-spec = tie.close (tie.spec
-    returns
-    returns-2
-    (λ c. search needs)
-    returns-3)
+    returns returns-2 (λ c. search needs) returns-3)

@@ -98,30 +98,7 @@ pub over-spec : {M : Type 1} → statement M
 over-spec =
     tie.close
     (tie.spec
-    Inv-loop
-    μ-loop
-    (λ c κs. search needs)
-    (λ c κs. search needs)
-    (λ c. search needs)
-    returns
-    (λ c κs. search needs)
-    loop-holds
-    (λ c. search needs)
-    (λ c. search needs)
-    (λ c κs. search needs)
-    (λ c κs. search needs)
-    add-next
-    (λ c κs. search needs)
-    add-length-over
-    add-length-over-2
-    (λ c κs. search needs)
-    returns-2
-    add-lengths
-    (λ c. search needs)
-    (λ c. search needs)
-    loop-again
-    add-end
-    (λ c κs. search needs)
-    add-end-2
-    returns-3
-    returns-4)
+    Inv-loop μ-loop (λ c κs. search needs) (λ c κs. search needs) (λ c. search needs) returns (λ c κs. search needs) loop-holds
+    (λ c. search needs) (λ c. search needs) (λ c κs. search needs) (λ c κs. search needs) add-next (λ c κs. search needs) add-length-over
+    add-length-over-2 (λ c κs. search needs) returns-2 add-lengths (λ c. search needs) (λ c. search needs) loop-again add-end
+    (λ c κs. search needs) add-end-2 returns-3 returns-4)

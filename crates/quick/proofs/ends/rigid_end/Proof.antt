@@ -30,9 +30,4 @@ pub rigid-end-spec : {M : Type 1} → statement M
 rigid-end-spec =
     tie.close
     (tie.spec
-    (λ c κs. search needs)
-    holds-requires
-    (λ c κs. search needs)
-    add-result
-    returns
-    returns-2)
+    (λ c κs. search needs) holds-requires (λ c κs. search needs) add-result returns returns-2)

@@ -15,5 +15,4 @@ returns-2 c =
 
 pub kept-spec : {M : Type 1} → statement M
 kept-spec = tie.close (tie.spec
-    returns
-    returns-2)
+    returns returns-2)

@@ -19,7 +19,4 @@ returns c =
 
 pub opened-spec : {M : Type 1} → statement M
 opened-spec = tie.close (tie.spec
-    (λ c κs. search needs)
-    (λ c κs. search needs)
-    (λ c κs. search needs)
-    returns)
+    (λ c κs. search needs) (λ c κs. search needs) (λ c κs. search needs) returns)

@@ -23,8 +23,4 @@ returns-3 c =
 pub always-one-spec : {M : Type 1} → statement M
 always-one-spec =
     tie.close (tie.spec
-    (λ c κs. search needs)
-    returns
-    (λ c κs. search needs)
-    returns-2
-    returns-3)
+    (λ c κs. search needs) returns (λ c κs. search needs) returns-2 returns-3)

@@ -64,13 +64,5 @@ pub count-always-spec : {M : Type 1} → statement M
 count-always-spec =
     tie.close
     (tie.spec
-    Inv-loop
-    μ-loop
-    loop-holds
-    (λ c κs. search needs)
-    (λ c κs. search needs)
-    add-count
-    (λ c. search needs)
-    (λ c. search needs)
-    loop-again
+    Inv-loop μ-loop loop-holds (λ c κs. search needs) (λ c κs. search needs) add-count (λ c. search needs) (λ c. search needs) loop-again
     returns)

@@ -41,14 +41,5 @@ pub count-chapters-spec : {M : Type 1} → statement M
 count-chapters-spec =
     tie.close
     (tie.spec
-    Inv-loop
-    μ-loop
-    loop-holds
-    (λ c κs. search needs)
-    (λ c κs. search needs)
-    (λ c κs. search needs)
-    add-chapters
-    (λ c. search needs)
-    (λ c. search needs)
-    loop-again
-    returns)
+    Inv-loop μ-loop loop-holds (λ c κs. search needs) (λ c κs. search needs) (λ c κs. search needs) add-chapters (λ c. search needs)
+    (λ c. search needs) loop-again returns)

@@ -39,14 +39,5 @@ pub count-nullable-spec : {M : Type 1} → statement M
 count-nullable-spec =
     tie.close
     (tie.spec
-    Inv-loop
-    μ-loop
-    loop-holds
-    (λ c κs. search needs)
-    (λ c κs. search needs)
-    (λ c κs. search needs)
-    add-bits
-    (λ c. search needs)
-    (λ c. search needs)
-    loop-again
-    returns)
+    Inv-loop μ-loop loop-holds (λ c κs. search needs) (λ c κs. search needs) (λ c κs. search needs) add-bits (λ c. search needs)
+    (λ c. search needs) loop-again returns)

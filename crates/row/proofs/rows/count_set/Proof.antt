@@ -104,22 +104,6 @@ pub count-set-spec : {M : Type 1} → statement M
 count-set-spec =
     tie.close
     (tie.spec
-    Inv-loop
-    μ-loop
-    loop-holds
-    shared-slice-read-count
-    cast-count
-    add-count
-    (λ c. search needs)
-    (λ c. search needs)
-    loop-again
-    (λ c. search needs)
-    shared-slice-read-kept
-    (λ c. search needs)
-    (λ c. search needs)
-    (λ c. search needs)
-    (λ c. search needs)
-    cast-count-2
-    add-count-2
-    returns
-    returns-2)
+    Inv-loop μ-loop loop-holds shared-slice-read-count cast-count add-count (λ c. search needs) (λ c. search needs) loop-again
+    (λ c. search needs) shared-slice-read-kept (λ c. search needs) (λ c. search needs) (λ c. search needs) (λ c. search needs) cast-count-2
+    add-count-2 returns returns-2)

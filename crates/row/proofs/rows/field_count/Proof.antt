@@ -16,6 +16,4 @@ returns c =
 
 pub field-count-spec : {M : Type 1} → statement M
 field-count-spec = tie.close (tie.spec
-    (λ c κs. search needs)
-    (λ c κs. search needs)
-    returns)
+    (λ c κs. search needs) (λ c κs. search needs) returns)

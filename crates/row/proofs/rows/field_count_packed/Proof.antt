@@ -101,14 +101,5 @@ pub field-count-packed-spec : {M : Type 1} → statement M
 field-count-packed-spec =
     tie.close
     (tie.spec
-    returns
-    (λ c κs. search needs)
-    (λ c κs. search needs)
-    (λ c. search needs)
-    (λ c. search needs)
-    (λ c κs. search needs)
-    (λ c κs. search needs)
-    count-set-requires
-    add-t19
-    returns-2
-    returns-3)
+    returns (λ c κs. search needs) (λ c κs. search needs) (λ c. search needs) (λ c. search needs) (λ c κs. search needs) (λ c κs. search needs)
+    count-set-requires add-t19 returns-2 returns-3)

@@ -16,6 +16,4 @@ returns c =
 
 pub look-up-spec : {M : Type 1} → statement M
 look-up-spec = tie.close (tie.spec
-    (λ c κs. search needs)
-    (λ c κs. search needs)
-    returns)
+    (λ c κs. search needs) (λ c κs. search needs) returns)

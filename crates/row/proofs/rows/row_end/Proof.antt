@@ -16,6 +16,4 @@ returns c =
 
 pub row-end-spec : {M : Type 1} → statement M
 row-end-spec = tie.close (tie.spec
-    (λ c κs. search needs)
-    (λ c κs. search needs)
-    returns)
+    (λ c κs. search needs) (λ c κs. search needs) returns)

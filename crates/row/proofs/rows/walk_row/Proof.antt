@@ -152,36 +152,8 @@ pub walk-row-spec : {M : Type 1} → statement M
 walk-row-spec =
     tie.close
     (tie.spec
-    Inv-loop
-    μ-loop
-    (λ c κs. search needs)
-    loop-holds
-    (λ c κs. search needs)
-    (λ c κs. search needs)
-    (λ c κs. search needs)
-    (λ c κs. search needs)
-    add-position
-    (λ c κs. search needs)
-    (λ c κs. search needs)
-    add-bit
-    (λ c. search needs)
-    (λ c. search needs)
-    loop-again
-    (λ c κs. search needs)
-    (λ c. search needs)
-    returns
-    (λ c. search needs)
-    add-prefixes
-    (λ c κs. search needs)
-    (λ c κs. search needs)
-    add-bit-2
-    (λ c. search needs)
-    (λ c. search needs)
-    loop-again-2
-    (λ c κs. search needs)
-    (λ c κs. search needs)
-    add-bit-3
-    (λ c. search needs)
-    (λ c. search needs)
-    loop-again-3
-    returns-2)
+    Inv-loop μ-loop (λ c κs. search needs) loop-holds (λ c κs. search needs) (λ c κs. search needs) (λ c κs. search needs)
+    (λ c κs. search needs) add-position (λ c κs. search needs) (λ c κs. search needs) add-bit (λ c. search needs) (λ c. search needs) loop-again
+    (λ c κs. search needs) (λ c. search needs) returns (λ c. search needs) add-prefixes (λ c κs. search needs) (λ c κs. search needs) add-bit-2
+    (λ c. search needs) (λ c. search needs) loop-again-2 (λ c κs. search needs) (λ c κs. search needs) add-bit-3 (λ c. search needs)
+    (λ c. search needs) loop-again-3 returns-2)

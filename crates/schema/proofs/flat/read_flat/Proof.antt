@@ -76,23 +76,6 @@ pub read-flat-spec : {M : Type 1} → statement M
 read-flat-spec =
     tie.close
     (tie.spec
-    Inv-loop
-    μ-loop
-    returns
-    (λ c κs. search needs)
-    (λ c. search needs)
-    (λ c. search needs)
-    loop-holds
-    (λ c κs. search needs)
-    (λ c. search needs)
-    returns-2
-    (λ c. search needs)
-    cast-slots
-    (λ c. search needs)
-    element-write-slots
-    (λ c. search needs)
-    (λ c. search needs)
-    loop-again
-    returns-3
-    returns-4
-    returns-5)
+    Inv-loop μ-loop returns (λ c κs. search needs) (λ c. search needs) (λ c. search needs) loop-holds (λ c κs. search needs) (λ c. search needs)
+    returns-2 (λ c. search needs) cast-slots (λ c. search needs) element-write-slots (λ c. search needs) (λ c. search needs) loop-again
+    returns-3 returns-4 returns-5)

@@ -52,10 +52,4 @@ pub read-file-spec : {M : Type 1} → statement M
 read-file-spec =
     tie.close
     (tie.spec
-    returns
-    read-schema-requires
-    (λ c. search needs)
-    (λ c. search needs)
-    returns-2
-    returns-3
-    returns-4)
+    returns read-schema-requires (λ c. search needs) (λ c. search needs) returns-2 returns-3 returns-4)

@@ -21,8 +21,4 @@ returns-3 c = λ cs s. rw (c .before .if1 .left) (c .quick-row .ensures cs s)
 pub quick-end-spec : {M : Type 1} → statement M
 quick-end-spec =
     tie.close (tie.spec
-    returns
-    (λ c κs. search needs)
-    returns-2
-    (λ c κs. search needs)
-    returns-3)
+    returns (λ c κs. search needs) returns-2 (λ c κs. search needs) returns-3)

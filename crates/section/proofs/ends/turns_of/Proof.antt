@@ -33,9 +33,4 @@ pub turns-of-spec : {M : Type 1} → statement M
 turns-of-spec =
     tie.close
     (tie.spec
-    add-result
-    mul-result
-    element-copy-out-result
-    (λ c. search needs)
-    returns
-    returns-2)
+    add-result mul-result element-copy-out-result (λ c. search needs) returns returns-2)

@@ -24,8 +24,4 @@ returns-2 c =
 pub delete-head-spec : {M : Type 1} → statement M
 delete-head-spec =
     tie.close (tie.spec
-    (λ c κs. search needs)
-    (λ c. search needs)
-    (λ c. search needs)
-    returns
-    returns-2)
+    (λ c κs. search needs) (λ c. search needs) (λ c. search needs) returns returns-2)

@@ -20,7 +20,4 @@ returns-2 c =
 
 pub done-head-spec : {M : Type 1} → statement M
 done-head-spec = tie.close (tie.spec
-    (λ c. search needs)
-    returns
-    (λ c. search needs)
-    returns-2)
+    (λ c. search needs) returns (λ c. search needs) returns-2)

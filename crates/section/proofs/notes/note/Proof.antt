@@ -41,22 +41,6 @@ pub note-spec : {M : Type 1} → statement M
 note-spec =
     tie.close
     (tie.spec
-    (λ c. search needs)
-    (λ c. search needs)
-    (λ c. search needs)
-    (λ c. search needs)
-    (λ c. search needs)
-    returns
-    (λ c. search needs)
-    (λ c. search needs)
-    (λ c. search needs)
-    slice-write-sizes-3
-    (λ c. search needs)
-    (λ c. search needs)
-    slice-write-sizes-4
-    (λ c. search needs)
-    (λ c. search needs)
-    returns-2
-    slice-write-sizes-5
-    (λ c. search needs)
-    returns-3)
+    (λ c. search needs) (λ c. search needs) (λ c. search needs) (λ c. search needs) (λ c. search needs) returns (λ c. search needs)
+    (λ c. search needs) (λ c. search needs) slice-write-sizes-3 (λ c. search needs) (λ c. search needs) slice-write-sizes-4 (λ c. search needs)
+    (λ c. search needs) returns-2 slice-write-sizes-5 (λ c. search needs) returns-3)

@@ -118,28 +118,7 @@ pub read-noting-spec : {M : Type 1} → statement M
 read-noting-spec =
     tie.close
     (tie.spec
-    (λ c. search needs)
-    (λ c κs. search needs)
-    (λ c. search needs)
-    (λ c κs. search needs)
-    (λ c. search needs)
-    (λ c. search needs)
-    returns
-    (λ c. search needs)
-    (λ c. search needs)
-    slice-aggregate-copy-numbers
-    (λ c κs. search needs)
-    same-length-2
-    (λ c. search needs)
-    returns-2
-    (λ c. search needs)
-    fill-requires
-    same-length-4
-    (λ c. search needs)
-    returns-3
-    scan-requires-2
-    (λ c. search needs)
-    returns-4
-    same-length-7
-    (λ c. search needs)
-    returns-5)
+    (λ c. search needs) (λ c κs. search needs) (λ c. search needs) (λ c κs. search needs) (λ c. search needs) (λ c. search needs) returns
+    (λ c. search needs) (λ c. search needs) slice-aggregate-copy-numbers (λ c κs. search needs) same-length-2 (λ c. search needs) returns-2
+    (λ c. search needs) fill-requires same-length-4 (λ c. search needs) returns-3 scan-requires-2 (λ c. search needs) returns-4 same-length-7
+    (λ c. search needs) returns-5)

@@ -224,47 +224,8 @@ pub scan-spec : {M : Type 1} → statement M
 scan-spec =
     tie.close
     (tie.spec
-    Inv-loop
-    μ-loop
-    Inv-section
-    μ-section
-    section-holds
-    head-at-requires
-    (λ c. search needs)
-    (λ c. search needs)
-    (λ c. search needs)
-    sub-put-row
-    put-row-requires
-    note-requires
-    add-at
-    section-less
-    section-again
-    (λ c. search needs)
-    (λ c κs. search needs)
-    turns-of-requires
-    loop-holds
-    turn-requires
-    (λ c. search needs)
-    (λ c. search needs)
-    (λ c. search needs)
-    loop-less
-    loop-again
-    sub-note
-    note-requires-2
-    sub-put-row-2
-    put-row-requires-2
-    section-less-2
-    section-again-2
-    put-row-requires-3
-    add-rows
-    section-less-3
-    section-again-3
-    same-length
-    same-length-2
-    returns
-    same-length-3
-    same-length-4
-    returns-2
-    same-length-5
-    same-length-6
-    returns-3)
+    Inv-loop μ-loop Inv-section μ-section section-holds head-at-requires (λ c. search needs) (λ c. search needs) (λ c. search needs) sub-put-row
+    put-row-requires note-requires add-at section-less section-again (λ c. search needs) (λ c κs. search needs) turns-of-requires loop-holds
+    turn-requires (λ c. search needs) (λ c. search needs) (λ c. search needs) loop-less loop-again sub-note note-requires-2 sub-put-row-2
+    put-row-requires-2 section-less-2 section-again-2 put-row-requires-3 add-rows section-less-3 section-again-3 same-length same-length-2
+    returns same-length-3 same-length-4 returns-2 same-length-5 same-length-6 returns-3)

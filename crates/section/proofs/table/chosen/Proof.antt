@@ -14,5 +14,4 @@ returns-2 c = simp (ne-eqb _ _ (c .if1 .left))
 
 pub chosen-spec : {M : Type 1} → statement M
 chosen-spec = tie.close (tie.spec
-    returns
-    returns-2)
+    returns returns-2)

@@ -42,15 +42,5 @@ pub entry-at-spec : {M : Type 1} → statement M
 entry-at-spec =
     tie.close
     (tie.spec
-    shared-slice-read-wide
-    (λ c κs. search needs)
-    (λ c. search needs)
-    (λ c. search needs)
-    add-start
-    mul-start
-    add-start-2
-    id-behind-requires
-    (λ c κs. search needs)
-    (λ c κs. search needs)
-    (λ c κs. search needs)
-    returns)
+    shared-slice-read-wide (λ c κs. search needs) (λ c. search needs) (λ c. search needs) add-start mul-start add-start-2 id-behind-requires
+    (λ c κs. search needs) (λ c κs. search needs) (λ c κs. search needs) returns)

@@ -110,18 +110,5 @@ pub fill-spec : {M : Type 1} → statement M
 fill-spec =
     tie.close
     (tie.spec
-    Inv-loop
-    μ-loop
-    loop-holds
-    shared-slice-read-if1
-    entry-at-requires
-    noted-at-requires
-    sub-rows
-    add-rows
-    sub-put-row
-    put-row-requires
-    add-at
-    loop-less
-    loop-again
-    same-length
-    returns)
+    Inv-loop μ-loop loop-holds shared-slice-read-if1 entry-at-requires noted-at-requires sub-rows add-rows sub-put-row put-row-requires add-at
+    loop-less loop-again same-length returns)

@@ -73,17 +73,5 @@ pub noted-at-spec : {M : Type 1} → statement M
 noted-at-spec =
     tie.close
     (tie.spec
-    shared-slice-read-wide
-    (λ c κs. search needs)
-    add-t8
-    returns
-    add-wide
-    shared-slice-read-wide-2
-    (λ c κs. search needs)
-    mul-long
-    add-wide-2
-    shared-slice-read-wide-3
-    (λ c κs. search needs)
-    add-long
-    add-t9
-    returns-2)
+    shared-slice-read-wide (λ c κs. search needs) add-t8 returns add-wide shared-slice-read-wide-2 (λ c κs. search needs) mul-long add-wide-2
+    shared-slice-read-wide-3 (λ c κs. search needs) add-long add-t9 returns-2)

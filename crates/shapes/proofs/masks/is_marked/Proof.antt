@@ -15,7 +15,4 @@ returns-2 c = rw (sym (c .before .is-chapter .ensures) ∙ c .if1 .left) refl
 
 pub is-marked-spec : {M : Type 1} → statement M
 is-marked-spec = tie.close (tie.spec
-    (λ c κs. search needs)
-    (λ c κs. search needs)
-    returns
-    returns-2)
+    (λ c κs. search needs) (λ c κs. search needs) returns returns-2)

@@ -16,7 +16,4 @@ returns-2 c =
 
 pub is-unforced-spec : {M : Type 1} → statement M
 is-unforced-spec = tie.close (tie.spec
-    (λ c κs. search needs)
-    returns
-    (λ c κs. search needs)
-    returns-2)
+    (λ c κs. search needs) returns (λ c κs. search needs) returns-2)

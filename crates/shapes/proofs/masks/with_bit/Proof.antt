@@ -17,6 +17,4 @@ returns-2 c =
 
 pub with-bit-spec : {M : Type 1} → statement M
 with-bit-spec = tie.close (tie.spec
-    (λ c. search needs)
-    returns
-    returns-2)
+    (λ c. search needs) returns returns-2)

@@ -126,34 +126,7 @@ pub add-stops-spec : {M : Type 1} → statement M
 add-stops-spec =
     tie.close
     (tie.spec
-    Inv-loop
-    μ-loop
-    loop-holds
-    (λ c. search needs)
-    (λ c. search needs)
-    (λ c. search needs)
-    (λ c κs. search needs)
-    (λ c κs. search needs)
-    (λ c κs. search needs)
-    (λ c κs. search needs)
-    add-shapes
-    mul-shapes
-    slice-write-shapes
-    add-stops
-    (λ c κs. search needs)
-    add-bit
-    (λ c. search needs)
-    (λ c. search needs)
-    loop-again
-    (λ c κs. search needs)
-    add-gap
-    (λ c κs. search needs)
-    add-bit-2
-    (λ c. search needs)
-    (λ c. search needs)
-    loop-again-2
-    (λ c κs. search needs)
-    (λ c κs. search needs)
-    form-of-requires
-    (λ c. search needs)
-    returns)
+    Inv-loop μ-loop loop-holds (λ c. search needs) (λ c. search needs) (λ c. search needs) (λ c κs. search needs) (λ c κs. search needs)
+    (λ c κs. search needs) (λ c κs. search needs) add-shapes mul-shapes slice-write-shapes add-stops (λ c κs. search needs) add-bit
+    (λ c. search needs) (λ c. search needs) loop-again (λ c κs. search needs) add-gap (λ c κs. search needs) add-bit-2 (λ c. search needs)
+    (λ c. search needs) loop-again-2 (λ c κs. search needs) (λ c κs. search needs) form-of-requires (λ c. search needs) returns)

@@ -19,9 +19,4 @@ returns-3 c = (λ e. record { few = omega (arith, c .before .if1 .left); inside 
 
 pub has-room-spec : {M : Type 1} → statement M
 has-room-spec = tie.close (tie.spec
-    returns
-    (λ c. search needs)
-    returns-2
-    (λ c. search needs)
-    (λ c. search needs)
-    returns-3)
+    returns (λ c. search needs) returns-2 (λ c. search needs) (λ c. search needs) returns-3)

@@ -20,7 +20,4 @@ returns-3 c =
 
 pub long-before-spec : {M : Type 1} → statement M
 long-before-spec = tie.close (tie.spec
-    returns
-    (λ c. search needs)
-    (λ c κs. search needs)
-    returns-3)
+    returns (λ c. search needs) (λ c κs. search needs) returns-3)

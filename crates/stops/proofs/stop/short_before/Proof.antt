@@ -21,8 +21,4 @@ returns-3 c =
 pub short-before-spec : {M : Type 1} → statement M
 short-before-spec =
     tie.close (tie.spec
-    returns
-    (λ c. search needs)
-    (λ c. search needs)
-    (λ c κs. search needs)
-    returns-3)
+    returns (λ c. search needs) (λ c. search needs) (λ c κs. search needs) returns-3)

@@ -74,23 +74,6 @@ pub has-data-spec : {M : Type 1} → statement M
 has-data-spec =
     tie.close
     (tie.spec
-    (λ c κs. search needs)
-    returns
-    (λ c κs. search needs)
-    (λ c κs. search needs)
-    add-lesser
-    (λ c κs. search needs)
-    (λ c κs. search needs)
-    sub-is-carried
-    part-is-carried-start
-    (λ c. search needs)
-    sub-is-carried-2
-    part-is-carried-start-2
-    (λ c. search needs)
-    (λ c κs. search needs)
-    returns-2
-    sub-has-field
-    part-has-field-start
-    (λ c. search needs)
-    (λ c κs. search needs)
-    returns-3)
+    (λ c κs. search needs) returns (λ c κs. search needs) (λ c κs. search needs) add-lesser (λ c κs. search needs) (λ c κs. search needs)
+    sub-is-carried part-is-carried-start (λ c. search needs) sub-is-carried-2 part-is-carried-start-2 (λ c. search needs) (λ c κs. search needs)
+    returns-2 sub-has-field part-has-field-start (λ c. search needs) (λ c κs. search needs) returns-3)

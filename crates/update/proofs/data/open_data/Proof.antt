@@ -21,8 +21,4 @@ returns-2 c = rw (c .before .if1 .left) (c .opened .ensures)
 pub open-data-spec : {M : Type 1} → statement M
 open-data-spec =
     tie.close (tie.spec
-    (λ c κs. search needs)
-    (λ c κs. search needs)
-    returns
-    (λ c κs. search needs)
-    returns-2)
+    (λ c κs. search needs) (λ c κs. search needs) returns (λ c κs. search needs) returns-2)

@@ -77,17 +77,5 @@ pub check-chapters-spec : {M : Type 1} → statement M
 check-chapters-spec =
     tie.close
     (tie.spec
-    Inv-loop
-    μ-loop
-    loop-holds
-    (λ c κs. search needs)
-    sub-is-chapter-marked
-    part-is-chapter-marked-start
-    (λ c. search needs)
-    (λ c κs. search needs)
-    add-t17
-    returns
-    (λ c. search needs)
-    (λ c. search needs)
-    loop-again
-    returns-2)
+    Inv-loop μ-loop loop-holds (λ c κs. search needs) sub-is-chapter-marked part-is-chapter-marked-start (λ c. search needs)
+    (λ c κs. search needs) add-t17 returns (λ c. search needs) (λ c. search needs) loop-again returns-2)

@@ -90,20 +90,6 @@ pub check-force-spec : {M : Type 1} → statement M
 check-force-spec =
     tie.close
     (tie.spec
-    Inv-loop
-    μ-loop
-    loop-holds
-    (λ c κs. search needs)
-    sub-breaks-force
-    part-breaks-force-start
-    (λ c. search needs)
-    sub-breaks-force-2
-    part-breaks-force-start-2
-    (λ c. search needs)
-    (λ c κs. search needs)
-    add-t22
-    returns
-    (λ c. search needs)
-    (λ c. search needs)
-    loop-again
+    Inv-loop μ-loop loop-holds (λ c κs. search needs) sub-breaks-force part-breaks-force-start (λ c. search needs) sub-breaks-force-2
+    part-breaks-force-start-2 (λ c. search needs) (λ c κs. search needs) add-t22 returns (λ c. search needs) (λ c. search needs) loop-again
     returns-2)

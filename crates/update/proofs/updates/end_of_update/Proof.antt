@@ -88,20 +88,6 @@ pub end-of-update-spec : {M : Type 1} → statement M
 end-of-update-spec =
     tie.close
     (tie.spec
-    (λ c κs. search needs)
-    (λ c. search needs)
-    (λ c. search needs)
-    (λ c κs. search needs)
-    add-force
-    sub-walk-update
-    part-walk-update-start
-    (λ c. search needs)
-    sub-walk-update-2
-    part-walk-update-start-2
-    (λ c. search needs)
-    (λ c κs. search needs)
-    (λ c. search needs)
-    (λ c. search needs)
-    returns
-    returns-2
-    returns-3)
+    (λ c κs. search needs) (λ c. search needs) (λ c. search needs) (λ c κs. search needs) add-force sub-walk-update part-walk-update-start
+    (λ c. search needs) sub-walk-update-2 part-walk-update-start-2 (λ c. search needs) (λ c κs. search needs) (λ c. search needs)
+    (λ c. search needs) returns returns-2 returns-3)

@@ -21,8 +21,4 @@ returns-3 c = sym (carried-not _ _ _ _ (sym (c .before .is-set .ensures) ∙ c .
 pub is-carried-spec : {M : Type 1} → statement M
 is-carried-spec =
     tie.close (tie.spec
-    (λ c κs. search needs)
-    (λ c κs. search needs)
-    returns
-    returns-2
-    returns-3)
+    (λ c κs. search needs) (λ c κs. search needs) returns returns-2 returns-3)

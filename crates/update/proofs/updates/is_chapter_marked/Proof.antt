@@ -16,7 +16,4 @@ returns-2 c = sym (marked-none _ _ _ (sym (c .before .is-chapter .ensures) ∙ c
 
 pub is-chapter-marked-spec : {M : Type 1} → statement M
 is-chapter-marked-spec = tie.close (tie.spec
-    (λ c κs. search needs)
-    (λ c κs. search needs)
-    returns
-    returns-2)
+    (λ c κs. search needs) (λ c κs. search needs) returns returns-2)

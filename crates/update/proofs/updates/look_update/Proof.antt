@@ -64,13 +64,5 @@ pub look-update-spec : {M : Type 1} → statement M
 look-update-spec =
     tie.close
     (tie.spec
-    returns
-    (λ c κs. search needs)
-    returns-2
-    (λ c κs. search needs)
-    (λ c. search needs)
-    (λ c κs. search needs)
-    (λ c. search needs)
-    update-at-requires
-    returns-3
-    returns-4)
+    returns (λ c κs. search needs) returns-2 (λ c κs. search needs) (λ c. search needs) (λ c κs. search needs) (λ c. search needs)
+    update-at-requires returns-3 returns-4)

@@ -108,22 +108,6 @@ pub open-update-spec : {M : Type 1} → statement M
 open-update-spec =
     tie.close
     (tie.spec
-    (λ c κs. search needs)
-    mul-lacks
-    (λ c κs. search needs)
-    returns
-    add-force
-    add-start
-    check-chapters-requires
-    (λ c. search needs)
-    (λ c. search needs)
-    check-chapters-requires-2
-    (λ c. search needs)
-    (λ c. search needs)
-    check-force-requires
-    (λ c. search needs)
-    (λ c. search needs)
-    returns-2
-    returns-3
-    returns-4
-    returns-5)
+    (λ c κs. search needs) mul-lacks (λ c κs. search needs) returns add-force add-start check-chapters-requires (λ c. search needs)
+    (λ c. search needs) check-chapters-requires-2 (λ c. search needs) (λ c. search needs) check-force-requires (λ c. search needs)
+    (λ c. search needs) returns-2 returns-3 returns-4 returns-5)

@@ -144,30 +144,7 @@ pub update-at-spec : {M : Type 1} → statement M
 update-at-spec =
     tie.close
     (tie.spec
-    column-of-requires
-    (λ c κs. search needs)
-    returns
-    (λ c κs. search needs)
-    (λ c κs. search needs)
-    sub-is-set
-    part-is-set-start
-    (λ c. search needs)
-    (λ c κs. search needs)
-    returns-2
-    sub-walk-update
-    part-walk-update-start
-    (λ c. search needs)
-    mul-walk-update
-    walk-update-requires
-    (λ c. search needs)
-    (λ c κs. search needs)
-    (λ c. search needs)
-    (λ c κs. search needs)
-    (λ c. search needs)
-    (λ c κs. search needs)
-    (λ c. search needs)
-    add-t30
-    returns-3
-    returns-4
-    returns-5
-    returns-6)
+    column-of-requires (λ c κs. search needs) returns (λ c κs. search needs) (λ c κs. search needs) sub-is-set part-is-set-start
+    (λ c. search needs) (λ c κs. search needs) returns-2 sub-walk-update part-walk-update-start (λ c. search needs) mul-walk-update
+    walk-update-requires (λ c. search needs) (λ c κs. search needs) (λ c. search needs) (λ c κs. search needs) (λ c. search needs)
+    (λ c κs. search needs) (λ c. search needs) add-t30 returns-3 returns-4 returns-5 returns-6)

@@ -20,6 +20,4 @@ returns c =
 
 pub update-end-spec : {M : Type 1} → statement M
 update-end-spec = tie.close (tie.spec
-    (λ c κs. search needs)
-    (λ c κs. search needs)
-    returns)
+    (λ c κs. search needs) (λ c κs. search needs) returns)

@@ -126,21 +126,6 @@ pub walk-update-spec : {M : Type 1} → statement M
 walk-update-spec =
     tie.close
     (tie.spec
-    Inv-loop
-    μ-loop
-    (λ c κs. search needs)
-    loop-holds
-    column-of-requires
-    (λ c κs. search needs)
-    (λ c κs. search needs)
-    (λ c. search needs)
-    returns
-    (λ c. search needs)
-    add-prefixes
-    (λ c. search needs)
-    (λ c. search needs)
-    loop-again
-    (λ c. search needs)
-    (λ c. search needs)
-    loop-again-2
-    returns-2)
+    Inv-loop μ-loop (λ c κs. search needs) loop-holds column-of-requires (λ c κs. search needs) (λ c κs. search needs) (λ c. search needs)
+    returns (λ c. search needs) add-prefixes (λ c. search needs) (λ c. search needs) loop-again (λ c. search needs) (λ c. search needs)
+    loop-again-2 returns-2)

@@ -72,16 +72,5 @@ pub copy-into-spec : {M : Type 1} → statement M
 copy-into-spec =
     tie.close
     (tie.spec
-    Inv-loop
-    μ-loop
-    lacks-requires
-    returns
-    loop-holds
-    shared-slice-read-out
-    add-out
-    slice-write-out
-    add-i
-    loop-less
-    loop-again
-    same-length
+    Inv-loop μ-loop lacks-requires returns loop-holds shared-slice-read-out add-out slice-write-out add-i loop-less loop-again same-length
     returns-2)

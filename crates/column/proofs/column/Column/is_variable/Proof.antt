@@ -24,6 +24,4 @@ returns-3 c =
 
 pub is-variable-spec : {M : Type 1} → statement M
 is-variable-spec = tie.close (tie.spec
-    returns
-    returns-2
-    returns-3)
+    returns returns-2 returns-3)
