@@ -100,13 +100,6 @@ fn about(read: IntRead, name: Input) -> IntRead
 {
     match read {
         IntRead::Int(n) => IntRead::Int(n),
-        IntRead::Refused(e) => {
-            let kind = e.kind;
-            IntRead::Refused(Error {
-                kind,
-                offset: e.offset,
-                input: name,
-            })
-        }
+        IntRead::Refused(e) => IntRead::Refused(e.about(name)),
     }
 }

@@ -53,11 +53,7 @@ fn read_fields(s: &[u8]) -> HeaderRead
     ensures { λ r. ⌜ toldHeader r ≡ headerFields (now (s .entry)) ⌝ }
 {
     if s.len() <= 7 {
-        return HeaderRead::Refused(Error {
-            kind: ErrorKind::Short,
-            offset: s.len(),
-            input: Input::Single,
-        });
+        return HeaderRead::Refused(Error::short(s.len()));
     }
     let order = wide(s[7]);
     if order != 0 {
@@ -68,11 +64,7 @@ fn read_fields(s: &[u8]) -> HeaderRead
         });
     }
     if s.len() <= 8 {
-        return HeaderRead::Refused(Error {
-            kind: ErrorKind::Short,
-            offset: s.len(),
-            input: Input::Single,
-        });
+        return HeaderRead::Refused(Error::short(s.len()));
     }
     let unicode = wide(s[8]);
     if 1 < unicode {

@@ -208,11 +208,7 @@ fn read_sized(s: &[u8], size: usize) -> OptionsRead
     ensures { λ r. ⌜ toldOptions r ≡ optionsSized (now (s .entry)) size ⌝ }
 {
     if lacks(s.len(), 3, size) {
-        return OptionsRead::Refused(Error {
-            kind: ErrorKind::Short,
-            offset: s.len(),
-            input: Input::Single,
-        });
+        return OptionsRead::Refused(Error::short(s.len()));
     }
     if size < 25 {
         return OptionsRead::Refused(Error {

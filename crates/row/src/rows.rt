@@ -124,11 +124,7 @@ pub(crate) fn open_row(slots: &[u32; 64], n: usize, row: &[u8], at: usize) -> In
     let bits = count_nullable(slots, n);
     let size = map_bytes(bits);
     if lacks(row.len(), at, size) {
-        return IntRead::Refused(Error {
-            kind: ErrorKind::Short,
-            offset: row.len(),
-            input: Input::Single,
-        });
+        return IntRead::Refused(Error::short(row.len()));
     }
     if count_chapters(slots, n) == 0 {
         return IntRead::Int(at + size);
@@ -157,10 +153,7 @@ fn is_whole(column: Column, size: usize, at: usize) -> bool
     if column.is_variable() {
         return false;
     }
-    if lacks(size, at, column.width()) {
-        return false;
-    }
-    return true;
+    !lacks(size, at, column.width())
 }
 
 // The walk from `start` over the first `k` columns, by this map.
@@ -208,12 +201,7 @@ fn walk_row(slots: &[u32; 64], n: usize, map: &[u8], row: &[u8], start: usize, k
 fn about_row(e: Error) -> LookUp
     ensures { λ r. ⌜ r ≡ look.Refused (record { kind = e .kind; offset = e .offset; input = input.Row }) ⌝ }
 {
-    let kind = e.kind;
-    LookUp::Refused(Error {
-        kind,
-        offset: e.offset,
-        input: Input::Row,
-    })
+    LookUp::Refused(e.about(Input::Row))
 }
 
 // Column `k` of a row that opens, its data from `start` on: a chapter, null, or its field by the walk to it.
@@ -293,15 +281,6 @@ pub fn row_end_packed(slots: &[u32; 64], count: usize, row: &[u8], at: usize) ->
     }
 }
 
-// The same of these columns.
-pub fn row_end(columns: Columns, row: &[u8], at: usize) -> IntRead
-    ensures { λ r. ⌜ toldInt r ≡ rowEnd (columnsIn columns) (now (row .entry)) at ⌝ }
-{
-    let count = columns.count;
-    let slots = pack_all(columns);
-    row_end_packed(&slots, count, row, at)
-}
-
 // 1 for a column that every row has a field of, else 0.
 fn always_one(column: Column) -> usize
     ensures { λ r. ⌜ r ≡ pick (isChapter column) 0 (pick (isNullable column) 0 1) ⌝ }
@@ -364,27 +343,11 @@ pub fn field_count_packed(slots: &[u32; 64], count: usize, row: &[u8]) -> IntRea
     let n = lesser(count, 64);
     let opened = open_row(slots, n, row, 0);
     match opened {
-        IntRead::Refused(e) => {
-            let kind = e.kind;
-            IntRead::Refused(Error {
-                kind,
-                offset: e.offset,
-                input: Input::Row,
-            })
-        }
+        IntRead::Refused(e) => IntRead::Refused(e.about(Input::Row)),
         IntRead::Int(_) => {
             let bits = count_nullable(slots, n);
             let fixed = count_always(slots, n);
             IntRead::Int(fixed + count_set(row, bits))
         }
     }
-}
-
-// The same of these columns.
-pub fn field_count(columns: Columns, row: &[u8]) -> IntRead
-    ensures { λ r. ⌜ toldInt r ≡ fieldCount (columnsIn columns) (now (row .entry)) ⌝ }
-{
-    let count = columns.count;
-    let slots = pack_all(columns);
-    field_count_packed(&slots, count, row)
 }

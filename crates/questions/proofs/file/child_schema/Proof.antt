@@ -32,7 +32,7 @@ returns-2 : tie.Need-returns-2
 returns-2 c =
     let exit : List ℕ = c .before .before .before .before .read-file .last .1 .0 in
     let h : fillFile (c .before .before .before .before .before .before .before .args .file .now) (replicate 512 0) ≡ refused (c .before .before .e .given .0 .0) = sym (c .before .before .before .before .read-file .ensures) ∙ ap (λ (r : PlaceRead). toldPlace r exit) (c .before .before .e .given .1) in
-    ap (λ (x : Error). refused x) (c .of-schema .ensures)
+    ap (λ (x : Error). refused x) (c .about .ensures)
     ∙ sym (child-refused (c .before .before .before .before .before .before .before .args .file .now) (c .before .before .before .before .before .before .before .args .id) (c .before .before .e .given .0 .0) (schemas-refused (c .before .before .before .before .before .before .before .args .file .now) (replicate 512 0) (λ i. c .before .before .before .before .before .before .shared-slice-known .given i .fits) (length-replicate {A = ℕ} 512 0) (c .before .before .e .given .0 .0) h))
 
 returns-3 : tie.Need-returns-3

@@ -36,7 +36,7 @@ returns-2 c =
     let h : fillFile (a .file .now) (a .table .now) ≡ refused (c .before .before .e .given .0 .0) = sym (c .before .before .before .before .read-file .ensures) ∙ ap (λ (r : PlaceRead). toldPlace r exit) (c .before .before .e .given .1) in
     record {
       answers =
-          ap (λ (x : Error). refused x) (c .of-schema .ensures)
+          ap (λ (x : Error). refused x) (c .about .ensures)
           ∙ sym (with-refused (a .file .now) (a .number) _ (c .before .before .e .given .0 .0) (schemas-refused (a .file .now) (a .table .now) (λ i. c .before .before .before .before .before .before .shared-slice-known .given i .fits) (c .before .before .before .before .before .before .before .pre) (c .before .before .e .given .0 .0) h));
       slots = tt;
     }
