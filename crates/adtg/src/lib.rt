@@ -27,11 +27,7 @@ fn check_size(size: usize, name: Input) -> Matched
     ensures { λ r. ⌜ toldMatch r ≡ about name (sizedBy size) ⌝ }
 {
     if size > LIMIT {
-        return Matched::Refused(Error {
-            kind: ErrorKind::TooLarge,
-            offset: 0,
-            input: name,
-        });
+        return Matched::Refused(Error::at_start(ErrorKind::TooLarge, name));
     }
     Matched::Same
 }

@@ -36,11 +36,7 @@ pub fn read_header(s: &[u8]) -> HeaderRead
     ensures { λ r. ⌜ toldHeader r ≡ headerOf (now (s .entry)) ⌝ }
 {
     if LIMIT < s.len() {
-        return HeaderRead::Refused(Error {
-            kind: ErrorKind::TooLarge,
-            offset: 0,
-            input: Input::Single,
-        });
+        return HeaderRead::Refused(Error::at_start(ErrorKind::TooLarge, Input::Single));
     }
     match match_at(s, 0, &SIGNATURE) {
         Matched::Refused(e) => HeaderRead::Refused(e),

@@ -528,11 +528,7 @@ fn check_asked(plan: &[usize; 131], row: &[u8], k: usize) -> Matched
     ensures { λ r. ⌜ toldMatch r ≡ asked (lent (now (plan .entry))) (now (row .entry)) k ⌝ }
 {
     if row.len() > LIMIT {
-        return Matched::Refused(Error {
-            kind: ErrorKind::TooLarge,
-            offset: 0,
-            input: Input::Row,
-        });
+        return Matched::Refused(Error::at_start(ErrorKind::TooLarge, Input::Row));
     }
     if k < 64 {
         if k < count_in(plan[COUNTS]) {
@@ -595,11 +591,7 @@ pub fn open_row(plan: Plan, row: &[u8]) -> IntRead
     ensures { λ r. ⌜ toldInt r ≡ openedRow plan (now (row .entry)) ⌝ }
 {
     if row.len() > LIMIT {
-        return IntRead::Refused(Error {
-            kind: ErrorKind::TooLarge,
-            offset: 0,
-            input: Input::Row,
-        });
+        return IntRead::Refused(Error::at_start(ErrorKind::TooLarge, Input::Row));
     }
     match open_map(&plan.numbers, row) {
         IntRead::Refused(e) => not_open(e),

@@ -96,11 +96,7 @@ fn open_schema(file: &[u8], number: usize, table: &mut [u64; 512]) -> Opened
         PlaceRead::Read(p) => {
             let schemas = p.schemas;
             if schemas <= number {
-                return Opened::Refused(Error {
-                    kind: ErrorKind::Missing,
-                    offset: 0,
-                    input: Input::SchemaNumber,
-                });
+                return Opened::Refused(Error::at_start(ErrorKind::Missing, Input::SchemaNumber));
             }
             let slot = table[MOST_FILE_COLUMNS + number];
             Opened::Block {
@@ -152,11 +148,7 @@ pub fn child_schema(file: &[u8], id: u32) -> SizeRead
         PlaceRead::Read(p) => {
             let number = child_number(&table, p.schemas, id as u64);
             if number == 0 {
-                return SizeRead::Refused(Error {
-                    kind: ErrorKind::Missing,
-                    offset: 0,
-                    input: Input::ChildId,
-                });
+                return SizeRead::Refused(Error::at_start(ErrorKind::Missing, Input::ChildId));
             }
             SizeRead::Size(number)
         }
@@ -176,11 +168,7 @@ pub fn column_at(file: &[u8], number: usize, column: usize) -> ColumnRead
             schemas,
         } => {
             if count <= column {
-                return ColumnRead::Refused(Error {
-                    kind: ErrorKind::Missing,
-                    offset: 0,
-                    input: Input::Column,
-                });
+                return ColumnRead::Refused(Error::at_start(ErrorKind::Missing, Input::Column));
             }
             let slot = table[start + column];
             let code = (slot % 256) as usize;

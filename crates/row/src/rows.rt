@@ -235,19 +235,11 @@ pub fn look_up_packed(slots: &[u32; 64], count: usize, row: &[u8], k: usize) -> 
     ensures { λ r. ⌜ toldLookUp r ≡ lookUpRow (packedFrom (min count 64) 0 (now (slots .entry))) (now (row .entry)) k ⌝ }
 {
     if row.len() > LIMIT {
-        return LookUp::Refused(Error {
-            kind: ErrorKind::TooLarge,
-            offset: 0,
-            input: Input::Row,
-        });
+        return LookUp::Refused(Error::at_start(ErrorKind::TooLarge, Input::Row));
     }
     let n = lesser(count, 64);
     if k >= n {
-        return LookUp::Refused(Error {
-            kind: ErrorKind::Missing,
-            offset: 0,
-            input: Input::Column,
-        });
+        return LookUp::Refused(Error::at_start(ErrorKind::Missing, Input::Column));
     }
     match open_row(slots, n, row, 0) {
         IntRead::Refused(e) => about_row(e),
@@ -334,11 +326,7 @@ pub fn field_count_packed(slots: &[u32; 64], count: usize, row: &[u8]) -> IntRea
     ensures { λ r. ⌜ toldInt r ≡ fieldCount (packedFrom (min count 64) 0 (now (slots .entry))) (now (row .entry)) ⌝ }
 {
     if row.len() > LIMIT {
-        return IntRead::Refused(Error {
-            kind: ErrorKind::TooLarge,
-            offset: 0,
-            input: Input::Row,
-        });
+        return IntRead::Refused(Error::at_start(ErrorKind::TooLarge, Input::Row));
     }
     let n = lesser(count, 64);
     let opened = open_row(slots, n, row, 0);

@@ -301,19 +301,11 @@ pub fn look_update(columns: Columns, update: &[u8], k: usize) -> UpdateLookUp
     ensures { λ r. ⌜ toldUpdate r ≡ lookUpdateRow (columnsIn columns) (now (update .entry)) k ⌝ }
 {
     if update.len() > LIMIT {
-        return UpdateLookUp::Refused(Error {
-            kind: ErrorKind::TooLarge,
-            offset: 0,
-            input: Input::Update,
-        });
+        return UpdateLookUp::Refused(Error::at_start(ErrorKind::TooLarge, Input::Update));
     }
     let n = lesser(columns.count, 64);
     if k >= n {
-        return UpdateLookUp::Refused(Error {
-            kind: ErrorKind::Missing,
-            offset: 0,
-            input: Input::Column,
-        });
+        return UpdateLookUp::Refused(Error::at_start(ErrorKind::Missing, Input::Column));
     }
     match end_of_update(
         &columns.codes,

@@ -73,6 +73,17 @@ impl Error {
         }
     }
 
+    // An error about an input as a whole: its place is the start.
+    pub fn at_start(reason: ErrorKind, name: Input) -> Error
+        ensures { λ r. ⌜ r ≡ record { kind = reason; offset = 0; input = name } ⌝ }
+    {
+        Error {
+            kind: reason,
+            offset: 0,
+            input: name,
+        }
+    }
+
     // The same error, about this input.
     pub fn about(self, name: Input) -> Error
         ensures { λ r. ⌜ r ≡ record { kind = self .kind; offset = self .offset; input = name } ⌝ }

@@ -21,9 +21,9 @@ use Rattle.row.proofs.rows.field_count_packed.Tie as tie
 
 returns : tie.Need-returns
 returns c =
-    let the-args = c .before .before .args in
+    let the-args = c .before .before .before .args in
     let args = the-args in
-    sym (count-large (packedFrom (min (args .count) 64) 0 (args .slots .now)) (args .row .now) (c .if1 .taken))
+    ap refused (c .at-start .ensures) ∙ sym (count-large (packedFrom (min (args .count) 64) 0 (args .slots .now)) (args .row .now) (c .before .if1 .taken))
 
 count-set-requires : tie.Need-count-set-requires
 unfolding presenceBytes
@@ -101,5 +101,5 @@ pub field-count-packed-spec : {M : Type 1} → statement M
 field-count-packed-spec =
     tie.close
     (tie.spec
-    returns (λ c κs. search needs) (λ c κs. search needs) (λ c. search needs) (λ c κs. search needs) (λ c. search needs) (λ c κs. search needs) (λ c κs. search needs)
+    (λ c κs. search needs) returns (λ c κs. search needs) (λ c κs. search needs) (λ c. search needs) (λ c κs. search needs) (λ c. search needs) (λ c κs. search needs) (λ c κs. search needs)
     count-set-requires add-t18 returns-2 returns-3)
