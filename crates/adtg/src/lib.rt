@@ -27,11 +27,7 @@ fn check_size(size: usize, name: Input) -> Matched
     ensures { λ r. ⌜ toldMatch r ≡ about name (sizedBy size) ⌝ }
 {
     if size > LIMIT {
-        return Matched::Refused(Error {
-            kind: ErrorKind::TooLarge,
-            offset: 0,
-            input: name,
-        });
+        return Matched::Refused(Error::at_start(ErrorKind::TooLarge, name));
     }
     Matched::Same
 }
@@ -100,13 +96,6 @@ fn about(read: IntRead, name: Input) -> IntRead
 {
     match read {
         IntRead::Int(n) => IntRead::Int(n),
-        IntRead::Refused(e) => {
-            let kind = e.kind;
-            IntRead::Refused(Error {
-                kind,
-                offset: e.offset,
-                input: name,
-            })
-        }
+        IntRead::Refused(e) => IntRead::Refused(e.about(name)),
     }
 }

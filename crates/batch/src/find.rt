@@ -155,11 +155,7 @@ pub fn find_lent(
     ensures { λ r. ⌜ Batched (spansFound (lent (now (plan .entry))) (now (section .entry)) (now (rows .entry)) owner column (length (now (spans .entry)))) (now (spans .entry)) (now (spans .exit)) r ⌝ }
 {
     if section.len() > LIMIT {
-        return SpansRead::Refused(Error {
-            kind: ErrorKind::TooLarge,
-            offset: 0,
-            input: Input::Section,
-        });
+        return SpansRead::Refused(Error::at_start(ErrorKind::TooLarge, Input::Section));
     }
     let mut held = [0u32; 512];
     match scan(plan, section, rows, owner, column, &mut held) {

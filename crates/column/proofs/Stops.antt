@@ -63,20 +63,6 @@ module _ (c : Column) where
   unfolding isStop
   stop-plain e n = rw (e, n)
 
-  -- every column of variable length is one
-  pub stop-variable : isVariable c ≡ true → isStop c ≡ true
-  unfolding isStop
-  stop-variable v = go (kind c) (isNullable c) v
-    where
-      go : (k : Kind) (n : Bool) → variableKind k ≡ true → pick (chapterKind k) false (pick n true (variableKind k)) ≡ true
-      go (Fixed w) n e = absurd (true≢false (sym e))
-      go Variable true e = refl
-      go Variable false e = refl
-      go Wide true e = refl
-      go Wide false e = refl
-      go Chapter n e = absurd (true≢false (sym e))
-      go Unknown n e = absurd (true≢false (sym e))
-
   -- no stop and no chapter: not nullable, of fixed width
   pub no-stop : isStop c ≡ false → isChapter c ≡ false → (isNullable c ≡ false) × (isVariable c ≡ false)
   unfolding isStop

@@ -7,7 +7,6 @@ use crate::column::Column;
 use crate::column::LengthCheck;
 use wire::bytes::lacks;
 use wire::error::Error;
-use wire::error::ErrorKind;
 use wire::error::Input;
 use wire::integer::IntRead;
 use wire::integer::u8_at;
@@ -42,11 +41,7 @@ fn bytes_at(row: &[u8], at: usize, width: usize, prefixes: usize) -> FieldRead
     ensures { λ r. ⌜ toldField r ≡ bytesAt (now (row .entry)) at width prefixes ⌝ }
 {
     if lacks(row.len(), at, width) {
-        return FieldRead::Refused(Error {
-            kind: ErrorKind::Short,
-            offset: row.len(),
-            input: Input::Single,
-        });
+        return FieldRead::Refused(Error::short(row.len()));
     }
     FieldRead::Found(Field {
         start: at,

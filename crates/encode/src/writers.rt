@@ -456,25 +456,13 @@ fn write_row<'a>(
     ensures { λ r. ⌜ WroteAt (valuesSized (now (values .entry)) (writing (standsIn update) (rowIn update) (columnsFrom n 0 (now (codes .entry)) (now (flags .entry)) (now (maxima .entry))) (now (entries .entry)) (now (values .entry)) (length (now (out .entry))) place)) place (now (out .entry)) (now (out .exit)) r ⌝ }
 {
     if values.len() > LIMIT {
-        return Written::Refused(Error {
-            kind: ErrorKind::TooLarge,
-            offset: 0,
-            input: Input::Values,
-        });
+        return Written::Refused(Error::at_start(ErrorKind::TooLarge, Input::Values));
     }
     if place > out.len() {
-        return Written::Refused(Error {
-            kind: ErrorKind::Missing,
-            offset: 0,
-            input: Input::Place,
-        });
+        return Written::Refused(Error::at_start(ErrorKind::Missing, Input::Place));
     }
     if entries.len() != 3 * n {
-        return Written::Refused(Error {
-            kind: ErrorKind::Missing,
-            offset: 0,
-            input: Input::Entries,
-        });
+        return Written::Refused(Error::at_start(ErrorKind::Missing, Input::Entries));
     }
     if are_entries(entries, values, n) {
         match check_entries(update, codes, flags, maxima, n, entries) {
@@ -494,11 +482,7 @@ fn write_row<'a>(
             }
         }
     } else {
-        Written::Refused(Error {
-            kind: ErrorKind::Missing,
-            offset: 0,
-            input: Input::Entries,
-        })
+        Written::Refused(Error::at_start(ErrorKind::Missing, Input::Entries))
     }
 }
 

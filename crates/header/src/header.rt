@@ -36,11 +36,7 @@ pub fn read_header(s: &[u8]) -> HeaderRead
     ensures { λ r. ⌜ toldHeader r ≡ headerOf (now (s .entry)) ⌝ }
 {
     if LIMIT < s.len() {
-        return HeaderRead::Refused(Error {
-            kind: ErrorKind::TooLarge,
-            offset: 0,
-            input: Input::Single,
-        });
+        return HeaderRead::Refused(Error::at_start(ErrorKind::TooLarge, Input::Single));
     }
     match match_at(s, 0, &SIGNATURE) {
         Matched::Refused(e) => HeaderRead::Refused(e),
@@ -53,11 +49,7 @@ fn read_fields(s: &[u8]) -> HeaderRead
     ensures { λ r. ⌜ toldHeader r ≡ headerFields (now (s .entry)) ⌝ }
 {
     if s.len() <= 7 {
-        return HeaderRead::Refused(Error {
-            kind: ErrorKind::Short,
-            offset: s.len(),
-            input: Input::Single,
-        });
+        return HeaderRead::Refused(Error::short(s.len()));
     }
     let order = wide(s[7]);
     if order != 0 {
@@ -68,11 +60,7 @@ fn read_fields(s: &[u8]) -> HeaderRead
         });
     }
     if s.len() <= 8 {
-        return HeaderRead::Refused(Error {
-            kind: ErrorKind::Short,
-            offset: s.len(),
-            input: Input::Single,
-        });
+        return HeaderRead::Refused(Error::short(s.len()));
     }
     let unicode = wide(s[8]);
     if 1 < unicode {

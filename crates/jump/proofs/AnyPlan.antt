@@ -26,8 +26,7 @@ use Rattle.walk.specs.Leaps.{leaps}
 use Rattle.walk.proofs.Found.{chapter-field, null-field, field-field}
 use Rattle.plan.specs.declared.plan.Plan.{Plan}
 use Rattle.plan.specs.Packed.{widthIn}
-use Rattle.plan.specs.Plans.{plannedWord, plannedColumn, plannedMark, plannedGap, plannedFirst, plannedKnown, fixed, noStops, fixedPlace}
-use Rattle.plan.proofs.Named.{named}
+use Rattle.plan.specs.Plans.{plannedWord, plannedColumn, plannedMark, plannedGap, plannedFirst, plannedKnown, noStops}
 use Rattle.jump.specs.Jumps.{tabled, startsBefore, stopsGone, stopsTo, byBit, fieldIn, jumped, landed, plannedOpen, plannedAnswer, plannedLookUp}
 
 -- what a look-up through a plan answers of a present column
@@ -143,13 +142,6 @@ module _ (p : Plan) (row : Bytes) (k : ℕ) (none : noStops p k ≡ true) where
   unfolding stopsGone
   gone-none = rw starts-none refl
 
-fixed-told :
-    (p : Plan) (k x : ℕ) → fixedPlace p k ≡ ok (fixed x) → (noStops p k ≡ true) × (plannedGap p k + prefixBytes (plannedColumn p k) ≡ x)
-unfolding fixedPlace
-fixed-told p k x h =
-    let (u, e, f) = bind-ok (plannedKnown p k) _ (fixed x) h in
-    named (isChapter (plannedColumn p k)) (noStops p k) f
-
 -- Where no column before k is a stop, a field that is found starts at the number held, its own prefix added.
 pub landed-placed :
     (p : Plan) (row : Bytes) (k : ℕ) (f : Field) → noStops p k ≡ true → Landed p row k f → f .start ≡ plannedGap p k + prefixBytes (plannedColumn p k)
@@ -158,10 +150,3 @@ landed-placed p row k f n d =
     let y : 0 ≡ d .place .at = ap (λ (w : Place). w .at) z in
     let t = told-in (plannedWord p k) row (d .place .at + plannedGap p k) (d .there) in
     ap (λ (g : Field). g .start) (d .same) ∙ omega (arith, t .starts)
-
--- That is the place which the plan names.
-pub planned-placed :
-    (p : Plan) (row : Bytes) (k : ℕ) (f : Field) (x : ℕ) → fixedPlace p k ≡ ok (fixed x) → plannedLookUp p row k ≡ ok (field f) → f .start ≡ x
-planned-placed p row k f x e h =
-    let (n, q) = fixed-told p k x e in
-    landed-placed p row k f n (look-landed p row k f h) ∙ q

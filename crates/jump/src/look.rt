@@ -489,11 +489,7 @@ fn open_map(plan: &[usize; 131], row: &[u8]) -> IntRead
     ensures { λ r. ⌜ toldInt r ≡ plannedOpen (lent (now (plan .entry))) (now (row .entry)) ⌝ }
 {
     if row.len() < plan[MAP] {
-        return IntRead::Refused(Error {
-            kind: ErrorKind::Short,
-            offset: row.len(),
-            input: Input::Single,
-        });
+        return IntRead::Refused(Error::short(row.len()));
     }
     match check_mask(plan[CHAPTERS], row) {
         Matched::Refused(e) => IntRead::Refused(e),
@@ -524,12 +520,7 @@ fn open_plain(plan: &[usize; 131], row: &[u8]) -> IntRead
 fn not_open(e: Error) -> IntRead
     ensures { λ r. ⌜ r ≡ int.Refused (record { kind = e .kind; offset = e .offset; input = input.Row }) ⌝ }
 {
-    let kind = e.kind;
-    IntRead::Refused(Error {
-        kind,
-        offset: e.offset,
-        input: Input::Row,
-    })
+    IntRead::Refused(e.about(Input::Row))
 }
 
 // The row's size, then the column number.
@@ -537,11 +528,7 @@ fn check_asked(plan: &[usize; 131], row: &[u8], k: usize) -> Matched
     ensures { λ r. ⌜ toldMatch r ≡ asked (lent (now (plan .entry))) (now (row .entry)) k ⌝ }
 {
     if row.len() > LIMIT {
-        return Matched::Refused(Error {
-            kind: ErrorKind::TooLarge,
-            offset: 0,
-            input: Input::Row,
-        });
+        return Matched::Refused(Error::at_start(ErrorKind::TooLarge, Input::Row));
     }
     if k < 64 {
         if k < count_in(plan[COUNTS]) {
@@ -604,11 +591,7 @@ pub fn open_row(plan: Plan, row: &[u8]) -> IntRead
     ensures { λ r. ⌜ toldInt r ≡ openedRow plan (now (row .entry)) ⌝ }
 {
     if row.len() > LIMIT {
-        return IntRead::Refused(Error {
-            kind: ErrorKind::TooLarge,
-            offset: 0,
-            input: Input::Row,
-        });
+        return IntRead::Refused(Error::at_start(ErrorKind::TooLarge, Input::Row));
     }
     match open_map(&plan.numbers, row) {
         IntRead::Refused(e) => not_open(e),

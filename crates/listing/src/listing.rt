@@ -22,18 +22,10 @@ fn list_rows(sheet: &[u8], rows: &[u8], table: &mut [u32]) -> RowsRead
     ensures { λ r. ⌜ Listed (listing (now (sheet .entry)) (now (rows .entry)) (length (now (table .entry)))) (now (table .entry)) (now (table .exit)) r ⌝ }
 {
     if sheet.len() > FILE_LIMIT {
-        return RowsRead::Refused(Error {
-            kind: ErrorKind::TooLarge,
-            offset: 0,
-            input: Input::Schema,
-        });
+        return RowsRead::Refused(Error::at_start(ErrorKind::TooLarge, Input::Schema));
     }
     if rows.len() > FILE_LIMIT {
-        return RowsRead::Refused(Error {
-            kind: ErrorKind::TooLarge,
-            offset: 0,
-            input: Input::Section,
-        });
+        return RowsRead::Refused(Error::at_start(ErrorKind::TooLarge, Input::Section));
     }
     read_section(sheet, rows, table)
 }

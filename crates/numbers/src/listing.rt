@@ -64,15 +64,7 @@ pub fn list_numbers(file: &[u8], table: &mut [u32]) -> Listed
 {
     let mut slots = [0u64; 512];
     match read_file(file, &mut slots) {
-        PlaceRead::Refused(e) => {
-            let kind = e.kind;
-            let offset = e.offset;
-            Listed::Refused(Error {
-                kind,
-                offset,
-                input: Input::Schema,
-            })
-        }
+        PlaceRead::Refused(e) => Listed::Refused(e.about(Input::Schema)),
         PlaceRead::Read(_) => {
             let n = count_numbers(file);
             if table.len() < n {

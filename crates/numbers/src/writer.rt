@@ -86,11 +86,7 @@ pub fn write_file(numbers: &[u32], out: &mut [u8]) -> Written
     ensures { λ r. ⌜ Wrote (fileWritten (now (numbers .entry)) (length (now (out .entry)))) (now (out .entry)) (now (out .exit)) r ⌝ }
 {
     if NUMBERS < numbers.len() {
-        return Written::Refused(Error {
-            kind: ErrorKind::TooLarge,
-            offset: 0,
-            input: Input::Numbers,
-        });
+        return Written::Refused(Error::at_start(ErrorKind::TooLarge, Input::Numbers));
     }
     let mut buffer = [0u8; 4096];
     let size = code_numbers(numbers, &mut buffer);

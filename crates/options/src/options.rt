@@ -208,11 +208,7 @@ fn read_sized(s: &[u8], size: usize) -> OptionsRead
     ensures { λ r. ⌜ toldOptions r ≡ optionsSized (now (s .entry)) size ⌝ }
 {
     if lacks(s.len(), 3, size) {
-        return OptionsRead::Refused(Error {
-            kind: ErrorKind::Short,
-            offset: s.len(),
-            input: Input::Single,
-        });
+        return OptionsRead::Refused(Error::short(s.len()));
     }
     if size < 25 {
         return OptionsRead::Refused(Error {
@@ -232,11 +228,7 @@ pub fn read_options(s: &[u8]) -> OptionsRead
     ensures { λ r. ⌜ toldOptions r ≡ optionsOf (now (s .entry)) ⌝ }
 {
     if LIMIT < s.len() {
-        return OptionsRead::Refused(Error {
-            kind: ErrorKind::TooLarge,
-            offset: 0,
-            input: Input::Single,
-        });
+        return OptionsRead::Refused(Error::at_start(ErrorKind::TooLarge, Input::Single));
     }
     match match_at(s, 0, &TOKEN) {
         Matched::Refused(e) => OptionsRead::Refused(e),
@@ -252,25 +244,13 @@ fn size_strings(first: usize, second: usize, third: usize) -> SizeCheck
     ensures { λ r. ⌜ toldSize r ≡ stringsSize first second third ⌝ }
 {
     if LIMIT < first {
-        return SizeCheck::Refused(Error {
-            kind: ErrorKind::TooLarge,
-            offset: 0,
-            input: Input::FirstString,
-        });
+        return SizeCheck::Refused(Error::at_start(ErrorKind::TooLarge, Input::FirstString));
     }
     if LIMIT < second {
-        return SizeCheck::Refused(Error {
-            kind: ErrorKind::TooLarge,
-            offset: 0,
-            input: Input::SecondString,
-        });
+        return SizeCheck::Refused(Error::at_start(ErrorKind::TooLarge, Input::SecondString));
     }
     if LIMIT < third {
-        return SizeCheck::Refused(Error {
-            kind: ErrorKind::TooLarge,
-            offset: 0,
-            input: Input::ThirdString,
-        });
+        return SizeCheck::Refused(Error::at_start(ErrorKind::TooLarge, Input::ThirdString));
     }
     if 65_535 < 25 + first {
         return SizeCheck::Refused(Error {

@@ -40,11 +40,7 @@ pub fn fixed_place(plan: Plan, k: usize) -> PlaceRead
     ensures { λ r. ⌜ toldPlace r ≡ fixedPlace plan k ⌝ }
 {
     if lesser(count_in(plan.numbers[COUNTS]), 64) <= k {
-        return PlaceRead::Refused(Error {
-            kind: ErrorKind::Missing,
-            offset: 0,
-            input: Input::Column,
-        });
+        return PlaceRead::Refused(Error::at_start(ErrorKind::Missing, Input::Column));
     }
     let word = plan.numbers[k];
     let column = unpack(word);

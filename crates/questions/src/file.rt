@@ -72,18 +72,6 @@ pub enum SlotsRead {
     Refused(Error),
 }
 
-// An error of the schema file, in a call with other inputs.
-fn of_schema(e: Error) -> Error
-    ensures { λ r. ⌜ r ≡ record { kind = e .kind; offset = e .offset; input = Input.Schema } ⌝ }
-{
-    let kind = e.kind;
-    Error {
-        kind,
-        offset: e.offset,
-        input: Input::Schema,
-    }
-}
-
 // How many schemas and columns a file has.
 pub fn count_file(file: &[u8]) -> CountsRead
     ensures { λ r. ⌜ toldCounts r ≡ countsOf (now (file .entry)) ⌝ }
@@ -104,15 +92,11 @@ fn open_schema(file: &[u8], number: usize, table: &mut [u64; 512]) -> Opened
     ensures { λ r. ⌜ Opening (now (file .entry)) number (now (table .exit)) r ⌝ }
 {
     match read_file(file, table) {
-        PlaceRead::Refused(e) => Opened::Refused(of_schema(e)),
+        PlaceRead::Refused(e) => Opened::Refused(e.about(Input::Schema)),
         PlaceRead::Read(p) => {
             let schemas = p.schemas;
             if schemas <= number {
-                return Opened::Refused(Error {
-                    kind: ErrorKind::Missing,
-                    offset: 0,
-                    input: Input::SchemaNumber,
-                });
+                return Opened::Refused(Error::at_start(ErrorKind::Missing, Input::SchemaNumber));
             }
             let slot = table[MOST_FILE_COLUMNS + number];
             Opened::Block {
@@ -160,15 +144,11 @@ pub fn child_schema(file: &[u8], id: u32) -> SizeRead
 {
     let mut table = [0u64; 512];
     match read_file(file, &mut table) {
-        PlaceRead::Refused(e) => SizeRead::Refused(of_schema(e)),
+        PlaceRead::Refused(e) => SizeRead::Refused(e.about(Input::Schema)),
         PlaceRead::Read(p) => {
             let number = child_number(&table, p.schemas, id as u64);
             if number == 0 {
-                return SizeRead::Refused(Error {
-                    kind: ErrorKind::Missing,
-                    offset: 0,
-                    input: Input::ChildId,
-                });
+                return SizeRead::Refused(Error::at_start(ErrorKind::Missing, Input::ChildId));
             }
             SizeRead::Size(number)
         }
@@ -188,11 +168,7 @@ pub fn column_at(file: &[u8], number: usize, column: usize) -> ColumnRead
             schemas,
         } => {
             if count <= column {
-                return ColumnRead::Refused(Error {
-                    kind: ErrorKind::Missing,
-                    offset: 0,
-                    input: Input::Column,
-                });
+                return ColumnRead::Refused(Error::at_start(ErrorKind::Missing, Input::Column));
             }
             let slot = table[start + column];
             let code = (slot % 256) as usize;

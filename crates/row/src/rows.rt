@@ -124,11 +124,7 @@ pub(crate) fn open_row(slots: &[u32; 64], n: usize, row: &[u8], at: usize) -> In
     let bits = count_nullable(slots, n);
     let size = map_bytes(bits);
     if lacks(row.len(), at, size) {
-        return IntRead::Refused(Error {
-            kind: ErrorKind::Short,
-            offset: row.len(),
-            input: Input::Single,
-        });
+        return IntRead::Refused(Error::short(row.len()));
     }
     if count_chapters(slots, n) == 0 {
         return IntRead::Int(at + size);
@@ -157,10 +153,7 @@ fn is_whole(column: Column, size: usize, at: usize) -> bool
     if column.is_variable() {
         return false;
     }
-    if lacks(size, at, column.width()) {
-        return false;
-    }
-    return true;
+    !lacks(size, at, column.width())
 }
 
 // The walk from `start` over the first `k` columns, by this map.
@@ -208,12 +201,7 @@ fn walk_row(slots: &[u32; 64], n: usize, map: &[u8], row: &[u8], start: usize, k
 fn about_row(e: Error) -> LookUp
     ensures { λ r. ⌜ r ≡ look.Refused (record { kind = e .kind; offset = e .offset; input = input.Row }) ⌝ }
 {
-    let kind = e.kind;
-    LookUp::Refused(Error {
-        kind,
-        offset: e.offset,
-        input: Input::Row,
-    })
+    LookUp::Refused(e.about(Input::Row))
 }
 
 // Column `k` of a row that opens, its data from `start` on: a chapter, null, or its field by the walk to it.
@@ -247,19 +235,11 @@ pub fn look_up_packed(slots: &[u32; 64], count: usize, row: &[u8], k: usize) -> 
     ensures { λ r. ⌜ toldLookUp r ≡ lookUpRow (packedFrom (min count 64) 0 (now (slots .entry))) (now (row .entry)) k ⌝ }
 {
     if row.len() > LIMIT {
-        return LookUp::Refused(Error {
-            kind: ErrorKind::TooLarge,
-            offset: 0,
-            input: Input::Row,
-        });
+        return LookUp::Refused(Error::at_start(ErrorKind::TooLarge, Input::Row));
     }
     let n = lesser(count, 64);
     if k >= n {
-        return LookUp::Refused(Error {
-            kind: ErrorKind::Missing,
-            offset: 0,
-            input: Input::Column,
-        });
+        return LookUp::Refused(Error::at_start(ErrorKind::Missing, Input::Column));
     }
     match open_row(slots, n, row, 0) {
         IntRead::Refused(e) => about_row(e),
@@ -291,15 +271,6 @@ pub fn row_end_packed(slots: &[u32; 64], count: usize, row: &[u8], at: usize) ->
             } => IntRead::Int(position),
         },
     }
-}
-
-// The same of these columns.
-pub fn row_end(columns: Columns, row: &[u8], at: usize) -> IntRead
-    ensures { λ r. ⌜ toldInt r ≡ rowEnd (columnsIn columns) (now (row .entry)) at ⌝ }
-{
-    let count = columns.count;
-    let slots = pack_all(columns);
-    row_end_packed(&slots, count, row, at)
 }
 
 // 1 for a column that every row has a field of, else 0.
@@ -355,36 +326,16 @@ pub fn field_count_packed(slots: &[u32; 64], count: usize, row: &[u8]) -> IntRea
     ensures { λ r. ⌜ toldInt r ≡ fieldCount (packedFrom (min count 64) 0 (now (slots .entry))) (now (row .entry)) ⌝ }
 {
     if row.len() > LIMIT {
-        return IntRead::Refused(Error {
-            kind: ErrorKind::TooLarge,
-            offset: 0,
-            input: Input::Row,
-        });
+        return IntRead::Refused(Error::at_start(ErrorKind::TooLarge, Input::Row));
     }
     let n = lesser(count, 64);
     let opened = open_row(slots, n, row, 0);
     match opened {
-        IntRead::Refused(e) => {
-            let kind = e.kind;
-            IntRead::Refused(Error {
-                kind,
-                offset: e.offset,
-                input: Input::Row,
-            })
-        }
+        IntRead::Refused(e) => IntRead::Refused(e.about(Input::Row)),
         IntRead::Int(_) => {
             let bits = count_nullable(slots, n);
             let fixed = count_always(slots, n);
             IntRead::Int(fixed + count_set(row, bits))
         }
     }
-}
-
-// The same of these columns.
-pub fn field_count(columns: Columns, row: &[u8]) -> IntRead
-    ensures { λ r. ⌜ toldInt r ≡ fieldCount (columnsIn columns) (now (row .entry)) ⌝ }
-{
-    let count = columns.count;
-    let slots = pack_all(columns);
-    field_count_packed(&slots, count, row)
 }

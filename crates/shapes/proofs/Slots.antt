@@ -6,13 +6,11 @@ use mathlib.Core.List.{List, map}
 use mathlib.Core.Bool.{Bool}
 use native.Mathlib.Omega.{arith}
 use lib.ListN.{length, length-map, getD, List·getD-map}
-use Rattle.wire.specs.Bits.{mapBytes}
 use Rattle.column.specs.declared.column.Column.{Column}
 use Rattle.column.specs.declared.columns.Columns.{Columns}
 use Rattle.column.specs.Columns.{isNullable}
 use Rattle.column.specs.Layout.{mostColumns, layout, columnsIn}
 use Rattle.walk.specs.Presence.{noColumn, one, bitOf}
-use Rattle.walk.specs.Updates.{updateBytes}
 use Rattle.walk.proofs.Laws.{bit-next, bit-few}
 use Rattle.walk.proofs.Arrays.{columns-laid}
 use Rattle.tree.specs.Tree.{mostFileColumns}
@@ -36,11 +34,6 @@ module _ (slots : List ℕ) (first count : ℕ) where
   pub slot-at : (i : ℕ) → i < count → getD (inSlots slots first count) i noColumn ≡ asColumn (entryIn (getD slots (first + i) 0))
   slot-at i h =
       List·getD-map asColumn (entriesIn first count slots) i (entry 0 0 0 0) ∙ ap asColumn (entries-at first count slots i h)
-
-  -- the bytes of a map of update data
-  pub slot-bytes : updateBytes (inSlots slots first count) ≡ mapBytes count
-  unfolding updateBytes
-  slot-bytes = ap mapBytes length-slots
 
   -- what was asked of column i, as it stands in its slot
   pub slot-asked :

@@ -8,14 +8,14 @@ use native.Mathlib.Omega.{arith}
 use lib.ListN.{length, getD}
 use lib.Dec.{ltb, leb, eqb}
 use borrow.Author.Tests.{le-leb, lt-leb}
-use Rattle.wire.specs.Read.{Bytes, Read, ok, pick}
+use Rattle.wire.specs.Read.{Bytes, pick}
 use Rattle.wire.specs.Integers.{intAt}
 use Rattle.maps.specs.Maps.{topBit}
-use Rattle.wire.proofs.Laws.{int-suc, int-zero, int-fits, int-four}
+use Rattle.wire.proofs.Laws.{int-suc, int-zero}
 use Rattle.column.specs.declared.column.Column.{Column}
 use Rattle.column.specs.Columns.{width, isVariable, isWide, prefixSize, greatest}
-use Rattle.column.specs.Stops.{Stop, stopFlags, stopOf, prefixOf, flag, stopWord, stopIn, lengthAt, spanError, Fits}
-use Rattle.column.proofs.Laws.{rule-most, greatest-wide, greatest-plain}
+use Rattle.column.specs.Stops.{Stop, stopFlags, stopOf, prefixOf, flag, stopWord, stopIn, lengthAt, Fits}
+use Rattle.column.proofs.Laws.{greatest-wide, greatest-plain}
 use Rattle.column.proofs.Stops.{width-few}
 
 -- Stops.
@@ -120,27 +120,10 @@ bit-placed n bits =
 
 -- Lengths.
 
--- a length that is allowed is no longer than the greatest one
-pub length-small : (t : Stop) (s : Bytes) (p : ℕ) → t .variable ≡ true → spanError t s p ≡ 0 → lengthAt t s p ≤ t .most
-unfolding spanError
-length-small t s p v e = rule-most (t .most) (t .even) (lengthAt t s p) (sym (rw v) ∙ e)
-
--- how code reads one
-pub int-four-told :
-    (s : Bytes) (at : ℕ) {v w x y : ℕ} → at + 4 ≤ length s → v ≡ getD s at 0 → w ≡ getD s (at + 1) 0 → x ≡ getD s (at + 2) 0 → y ≡ getD s (at + 3) 0 →
-    v + 256 * (w + 256 * (x + 256 * y)) ≡ intAt s at 4
-int-four-told s at {v} {w} {x} {y} h a b c d =
-    let e : _≡_ {A = Read ℕ} (ok (v + 256 * (w + 256 * (x + 256 * y)))) (ok (intAt s at 4)) = int-four s at v w x y h a b c d ∙ int-fits s at 4 h in
-    cc
-
 module _ (word : ℕ) (s : Bytes) (p : ℕ) where
-  pub long-none : stopIn word .long ≡ true → length s < p + 4 → lengthAt (stopIn word) s p ≡ 0
+  pub long-length : stopIn word .long ≡ true → lengthAt (stopIn word) s p ≡ pick (leb (p + 4) (length s)) (intAt s p 4) 0
   unfolding lengthAt
-  long-none l h = rw (l, lt-leb (p + 4) (length s) h)
-
-  pub long-whole : stopIn word .long ≡ true → p + 4 ≤ length s → lengthAt (stopIn word) s p ≡ intAt s p 4
-  unfolding lengthAt
-  long-whole l h = rw (l, le-leb (p + 4) (length s) h)
+  long-length l = rw l refl
 
   pub short-none : stopIn word .long ≡ false → length s ≤ p → lengthAt (stopIn word) s p ≡ 0
   unfolding lengthAt
@@ -152,10 +135,12 @@ module _ (word : ℕ) (s : Bytes) (p : ℕ) where
 
   -- where the prefix ends is known
   module _ {end r : ℕ} where
-    pub long-before : stopIn word .long ≡ true → end ≡ p + 4 → end ≤ length s → r ≡ intAt s (end - 4) 4 → r ≡ lengthAt (stopIn word) s p
-    long-before l e h t =
+    pub long-before :
+        stopIn word .long ≡ true → end ≡ p + 4 → r ≡ pick (leb end (length s)) (pick (leb 4 end) (intAt s (end - 4) 4) 0) 0 →
+        r ≡ lengthAt (stopIn word) s p
+    long-before l e t =
         let z : end - 4 ≡ p = omega arith in
-        t ∙ ap (λ (q : ℕ). intAt s q 4) z ∙ sym (long-whole l (omega arith))
+        t ∙ rw (le-leb 4 end (omega arith), z, e) (sym (long-length l))
 
     pub short-before : stopIn word .long ≡ false → end ≡ p + 1 → end ≤ length s → r ≡ getD s (end - 1) 0 → r ≡ lengthAt (stopIn word) s p
     short-before l e h t =

@@ -2,14 +2,13 @@
 ghost use mathlib.Core.Path.{_≡_};
 ghost use mathlib.Core.Bool.{true, false};
 ghost use Prim.Native.Nat.{ℕ, _+_, _-_, _%_, _≤_, _<_};
-ghost use lib.ListN.{length};
 ghost use Rattle.wire.specs.Read.{pick};
-ghost use Rattle.wire.specs.Integers.{intAt};
 ghost use Rattle.maps.specs.Maps.{topBit};
 ghost use Rattle.column.specs.Columns.{width, isVariable, prefixSize};
 ghost use Rattle.column.specs.Stops.{flag, stopFlags, stopOf, stopWord, stopIn, prefixOf, lengthAt};
 use column::column::Column;
-use wire::bytes::lacks;
+use wire::integer::u32_before;
+use wire::integer::u32_or_zero;
 use wire::integer::wide;
 
 // Gaps are less than this.
@@ -142,23 +141,12 @@ pub fn bit_on(word: usize, bits: u64) -> usize
     ((bits >> (word / BIT % 64)) % 2) as usize
 }
 
-// The integer of four bytes at `at`.
-fn four(s: &[u8], at: usize) -> usize
-    requires { ⌜ at + 4 ≤ length (now s) ⌝ }
-    ensures { λ r. ⌜ r ≡ intAt (now (s .entry)) at 4 ⌝ }
-{
-    wide(s[at]) + 256 * (wide(s[at + 1]) + 256 * (wide(s[at + 2]) + 256 * wide(s[at + 3])))
-}
-
 // The length that the prefix at `at` says; 0 where the prefix is not whole.
 pub fn length_at(word: usize, s: &[u8], at: usize) -> usize
     ensures { λ r. ⌜ r ≡ lengthAt (stopIn word) (now (s .entry)) at ⌝ }
 {
     if is_long_in(word) {
-        if lacks(s.len(), at, 4) {
-            return 0;
-        }
-        return four(s, at);
+        return u32_or_zero(s, at);
     }
     if s.len() <= at {
         return 0;
@@ -170,13 +158,7 @@ pub fn length_at(word: usize, s: &[u8], at: usize) -> usize
 pub fn long_before(s: &[u8], end: usize) -> usize
     ensures { λ r. ⌜ ((word at : ℕ) → stopIn word .long ≡ true → end ≡ at + 4 → r ≡ lengthAt (stopIn word) (now (s .entry)) at) ⌝ }
 {
-    if s.len() < end {
-        return 0;
-    }
-    if end < 4 {
-        return 0;
-    }
-    four(s, end - 4)
+    u32_before(s, end)
 }
 
 // The length in the byte that ends at `end`; 0 where it is not there.

@@ -10,7 +10,7 @@ use lib.Seq.{drop-at}
 use lib.Dec.{leb}
 use borrow.Author.Tests.{leb-true, leb-false, le-leb, lt-leb}
 use Rattle.wire.specs.Read.{Bytes, AreBytes, Read, ok, bad, _>>=_, check, sized}
-use Rattle.wire.proofs.Pieces.{ok-ok, bind-ok, bytes-drop, bind-same, bind-bind}
+use Rattle.wire.proofs.Pieces.{bytes-drop, bind-same, bind-bind}
 use Rattle.column.specs.declared.types.Kind.{Kind}
 use Rattle.column.specs.declared.types.Kind.the-variants.{Fixed, Variable, Wide, Chapter, Unknown}
 use Rattle.column.specs.Types.{chapterCode, kindOf}
@@ -344,13 +344,3 @@ fill-schemas b table o l =
     (λ t e. ap (λ (x : List Schema). ok x)
     (sym (ap (λ (m : ℕ). schemasIn 0 m (layFile t table)) (sym (schemas-length t)) ∙ table-schemas t table (file-of-iff b t o .0 e .1) l)))
     ∙ sym (ap (λ (r : Read Filled). r >>= λ f. ok (schemasIn 0 (f .schemas) (f .table))) (fill-file b table o l) ∙ bind-bind (fileOf b) _ _)
-
--- A column that is read leaves room as it found it, and gives no slot back.
-pub fill-good :
-    (b : Bytes) → AreBytes b → (d i : ℕ) (f g : Filled) → Good b f → 1 ≤ f .schemas → i < f .columns → fillColumn (fillSchema d b) b i f ≡ ok g →
-    Good b g × (f .columns ≤ g .columns) × (f .schemas ≤ g .schemas)
-fill-good b o d i f g good one slot e =
-    let c = column-agrees b o d i f good one slot (schema-agrees b o d) in
-    let (r, e₁, e₂) = bind-ok (readColumn (readSchema d) (stateOf b f)) _ g (sym c ∙ e) in
-    let z : laidNode i f r ≡ g = ok-ok e₂ in
-    rw (← z) (column-leaves b o d i f good one slot r e₁ .1, omega arith, omega arith)

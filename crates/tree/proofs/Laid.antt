@@ -22,9 +22,6 @@ length-lay (field code flags maximum rest) i n k table = length-lay rest _ n k _
 length-lay (chapter flags id nested rest) i n k table =
     length-lay rest _ _ _ _ ∙ length-lay nested _ _ _ _ ∙ length-set (set table i _) _ _ ∙ length-set table i _
 
-pub table-length : (t : Tree) (table : List ℕ) → length (layFile t table) ≡ length table
-table-length t table = length-lay t _ _ _ _ ∙ length-set table _ _
-
 -- so does a slot that is none of the columns', none of the nested schemas' columns and none of the nested schemas
 pub lay-other :
     (q : ℕ) (t : Tree) (i n k : ℕ) (table : List ℕ) → ((j : ℕ) → j < columns t → q ≡ i + j → ⊥) → ((j : ℕ) → j < nestedCounts t → q ≡ n + j → ⊥) →

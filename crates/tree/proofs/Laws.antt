@@ -14,8 +14,8 @@ use Rattle.wire.proofs.Laws.{sized-over, sized-within}
 use Rattle.tree.specs.Numbers.{Found, found, thirdAt, secondAt, numberAt}
 use Rattle.tree.specs.Tree.{mostFileColumns}
 use Rattle.tree.specs.Reader.{readFile, fileOf}
-use Rattle.tree.specs.Schemas.{Schema, schemaAt, columnsOf, columnAt, numberFrom, childNumber}
-use Rattle.tree.specs.Table.{schemaSlot, startIn, countIn, idIn, entryIn, entriesIn, schemaIn, schemasIn}
+use Rattle.tree.specs.Schemas.{schemaAt, columnAt, numberFrom, childNumber}
+use Rattle.tree.specs.Table.{schemaSlot, startIn, countIn, idIn, entryIn, schemaIn, schemasIn}
 use Rattle.tree.specs.Filling.{Filled, Good, moved, holding, opened, rangeAt}
 use Rattle.tree.proofs.TableSays.{entries-length, entries-at, schemas-in-length, schemas-in-at}
 
@@ -143,17 +143,6 @@ module _ (k : ℕ) (table : List ℕ) where
     schema-at =
         let z : 0 + j ≡ j = omega arith in
         rw (schemas-in-length 0 k table, lt-ltb j k h, schemas-in-at 0 k table j h, z)
-
-    pub columns-at :
-        columnsOf (schemasIn 0 k table) j ≡ entriesIn (startIn (getD table (schemaSlot j) 0)) (countIn (getD table (schemaSlot j) 0)) table
-    unfolding columnsOf schemaIn
-    columns-at =
-        let z : 0 + j ≡ j = omega arith in
-        ap (λ (s : Schema). s .columns) (schemas-in-at 0 k table j h ∙ ap (λ (m : ℕ). schemaIn m table) z)
-
-    pub column-missing : (c : ℕ) → countIn (getD table (schemaSlot j) 0) ≤ c → columnAt (schemasIn 0 k table) j c ≡ bad 18 0 Single
-    unfolding columnAt schemaIn check
-    column-missing c l = rw (schema-at, entries-length, le-ltb c (countIn (getD table (schemaSlot j) 0)) l)
 
     pub column-at :
         (c : ℕ) → c < countIn (getD table (schemaSlot j) 0) →

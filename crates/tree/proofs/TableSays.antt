@@ -7,7 +7,7 @@ use native.Mathlib.Omega.{arith}
 use lib.ListN.{length, getD, set}
 use lib.Seq.{getD-set-same, getD-set-other}
 use Rattle.tree.specs.Tree.{mostFileColumns, Tree, ids, chapters, WellFormed}
-use Rattle.tree.specs.Schemas.{Entry, entry, Schema, schema, nestedSchemas, schemasOf, schemaCount}
+use Rattle.tree.specs.Schemas.{Entry, entry, Schema, schema, schemasOf, schemaCount}
 use Rattle.tree.specs.Table.{tableSize, schemaSlot, slotOf, block, idIn, layColumns, layFile, idsFrom, idsIn, entryIn, entriesIn, schemaIn, schemasIn}
 use Rattle.tree.proofs.SchemaLists.{idsOf, nested-length, nested-ids, EntryRange, EntriesRange, no-entry, an-entry, SchemaRange, SchemasRange, a-schema, schemas-range}
 use Rattle.tree.proofs.Packed.{packed-code, packed-flags, packed-maximum, packed-id, block-start, block-count, block-id}
@@ -78,16 +78,6 @@ ids-block k start count id table h l a b =
     let f : idIn (getD other (schemaSlot k) 0) ≡ id =
     ap (λ (n : ℕ). idIn n) (getD-set-same table (schemaSlot k) v 0 l) ∙ block-id start count id a b in
     rw x (ids-split 1 (k - 1) 1 other ∙ rw (y, e, f))
-
-all-tail : {table : List ℕ} {low high k : ℕ} {s : Schema} {ss : List Schema} → AllLaid table low high k (s ∷ ss) → AllLaid table low high (k + 1) ss
-all-tail (one-laid l ls) = ls
-
--- the table of a file has the file's ids
-pub table-ids : (t : Tree) (table : List ℕ) → WellFormed t → length table ≡ tableSize → idsIn (schemaCount (schemasOf t)) (layFile t table) ≡ ids t
-unfolding schemasOf idsIn
-table-ids t table w l =
-    let z : suc (length (nestedSchemas t)) - 1 ≡ length (nestedSchemas t) = omega arith in
-    rw z (ids-laid {high = mostFileColumns} (omega arith) (all-tail (file-laid t table w l)) ∙ nested-ids t)
 
 -- Schemas.
 

@@ -43,18 +43,10 @@ pub fn current(columns: Columns, row: &[u8], update: &[u8], k: usize) -> Current
     ensures { λ r. ⌜ toldCurrent r ≡ currentRow (columnsIn columns) (now (row .entry)) (now (update .entry)) k ⌝ }
 {
     if update.len() > LIMIT {
-        return CurrentValue::Refused(Error {
-            kind: ErrorKind::TooLarge,
-            offset: 0,
-            input: Input::Update,
-        });
+        return CurrentValue::Refused(Error::at_start(ErrorKind::TooLarge, Input::Update));
     }
     if row.len() > LIMIT {
-        return CurrentValue::Refused(Error {
-            kind: ErrorKind::TooLarge,
-            offset: 0,
-            input: Input::Row,
-        });
+        return CurrentValue::Refused(Error::at_start(ErrorKind::TooLarge, Input::Row));
     }
     match look_update(columns, update, k) {
         UpdateLookUp::Refused(e) => CurrentValue::Refused(e),

@@ -147,11 +147,7 @@ pub(crate) fn open_update<'a>(
 {
     let size = map_bytes(n);
     if lacks(row.len(), at, 2 * size) {
-        return IntRead::Refused(Error {
-            kind: ErrorKind::Short,
-            offset: row.len(),
-            input: Input::Single,
-        });
+        return IntRead::Refused(Error::short(row.len()));
     }
     let force = at + size;
     let start = force + size;
@@ -250,12 +246,7 @@ fn end_of_update<'a>(
 fn about_update(e: Error) -> UpdateLookUp
     ensures { λ r. ⌜ r ≡ look.Refused (record { kind = e .kind; offset = e .offset; input = input.Update }) ⌝ }
 {
-    let kind = e.kind;
-    UpdateLookUp::Refused(Error {
-        kind,
-        offset: e.offset,
-        input: Input::Update,
-    })
+    UpdateLookUp::Refused(e.about(Input::Update))
 }
 
 // Column `k` of update data that are well formed and end at `end`.
@@ -310,19 +301,11 @@ pub fn look_update(columns: Columns, update: &[u8], k: usize) -> UpdateLookUp
     ensures { λ r. ⌜ toldUpdate r ≡ lookUpdateRow (columnsIn columns) (now (update .entry)) k ⌝ }
 {
     if update.len() > LIMIT {
-        return UpdateLookUp::Refused(Error {
-            kind: ErrorKind::TooLarge,
-            offset: 0,
-            input: Input::Update,
-        });
+        return UpdateLookUp::Refused(Error::at_start(ErrorKind::TooLarge, Input::Update));
     }
     let n = lesser(columns.count, 64);
     if k >= n {
-        return UpdateLookUp::Refused(Error {
-            kind: ErrorKind::Missing,
-            offset: 0,
-            input: Input::Column,
-        });
+        return UpdateLookUp::Refused(Error::at_start(ErrorKind::Missing, Input::Column));
     }
     match end_of_update(
         &columns.codes,

@@ -6,8 +6,8 @@ use mathlib.Core.Bool.{Bool, true, false, true≢false}
 use mathlib.Core.Path.{_≡_, refl, sym, ap, _∙_}
 use native.Mathlib.Numerals.{add-one}
 use native.Mathlib.Omega.{arith}
-use lib.ListN.{length, getD, take, drop, drop-of-length-le, length-take, take-append-drop}
-use lib.Seq.{drop-cons, take-append-seam}
+use lib.ListN.{length, getD, take, drop, drop-of-length-le}
+use lib.Seq.{drop-cons}
 use lib.Dec.{ltb, leb, eqb}
 use borrow.Author.Tests.{leb-true, leb-false, le-leb, lt-leb, eqb-true, eqb-false, ne-eqb}
 use Rattle.wire.specs.declared.error.Input.the-variants as input
@@ -397,22 +397,12 @@ module _ (on : ℕ → Bool) (s : Bytes) (ts : List Stop) (i : ℕ) (w : Place) 
   unfolding leaps
   leaps-next h = simp (drop-cons ts i noStop h, add-one i)
 
-pub leaps-append : (on : ℕ → Bool) (s : Bytes) (ts us : List Stop) (w : Place) → leaps on s (ts ++ us) w ≡ leaps on s ts w >>= leaps on s us
-unfolding leaps
-leaps-append on s [] us w = refl
-leaps-append on s (t ∷ ts) us w =
-    bind-same (passed on s t w) _ _ (λ v _. leaps-append on s ts us v) ∙ sym (bind-bind (passed on s t w) (leaps on s ts) (leaps on s us))
-
 -- The stops among some columns, and then among others; the first of them, and how many there are.
 
 count-few : (test : Mark → Bool) (ms : List Mark) → count test ms ≤ length ms
 unfolding count
 count-few test [] = omega arith
 count-few test (m ∷ ms) = omega (arith, one-most (test m), count-few test ms)
-
--- of the first k columns no more than k are stops
-pub stops-below : (stop : Column → Bool) (k : ℕ) (ms : List Mark) → stopCount stop (take k ms) ≤ k
-stops-below stop k ms = omega (arith, count-few (λ (m : Mark). stop (m .column)) (take k ms), length-take k ms)
 
 pick-both : {A B C : Type 0} (g : A → B → C) (t : Bool) (x y : A) (a b : B) → pick t (g x a) (g y b) ≡ g (pick t x y) (pick t a b)
 pick-both g true x y a b = refl
@@ -448,12 +438,6 @@ module _ (free stop : Column → Bool) where
   -- no more stops than columns
   pub stops-few : (gap : ℕ) (ms : List Mark) → length (stopsFrom free stop gap ms) ≤ length ms
   stops-few gap ms = omega (arith, stops-length gap ms, count-few (λ (m : Mark). stop (m .column)) ms)
-
-  pub stops-take : (gap k : ℕ) (ms : List Mark) → stopsFrom free stop gap (take k ms) ≡ take (stopCount stop (take k ms)) (stopsFrom free stop gap ms)
-  stops-take gap k ms =
-      sym
-      (ap (λ (l : List Mark). take (stopCount stop (take k ms)) (stopsFrom free stop gap l)) (sym (take-append-drop k ms))
-      ∙ rw (stops-append gap (take k ms) (drop k ms), ← stops-length gap (take k ms)) (take-append-seam (stopsFrom free stop gap (take k ms)) _))
 
 any-at : (ms : List Mark) (i : ℕ) → i < length ms → getD (stopsFrom anyColumn anyColumn 0 ms) i noStop ≡ stopOf true (getD ms i noMark .column) 0 (getD ms i noMark .bit)
 unfolding stopsFrom

@@ -31,12 +31,14 @@ abbrev pub dataHas : (update : Bool) → List Column → Bytes → ℕ → Mark 
 dataHas true cs s start = carriedIn cs s start
 dataHas false cs s start = present (drop start s)
 
--- column i has a field, or not
-abbrev pub HasAt : (update : Bool) → List Column → Bytes → (start i : ℕ) → Bool → Type 0
-HasAt update cs s start i r = r ≡ dataHas update cs s start (getD (dataMarks update cs) i noMark)
-
 -- past column i, from a position
 unfoldable pub dataPassed : (update : Bool) → List Column → Bytes → (start i at : ℕ) → Read ℕ
 dataPassed update cs s start i at = do
   w ← step (dataHas update cs s start) s (getD (dataMarks update cs) i noMark) (place at 0)
   ok (w .at)
+
+-- Inner.
+
+-- column i has a field, or not
+abbrev pub HasAt : (update : Bool) → List Column → Bytes → (start i : ℕ) → Bool → Type 0
+HasAt update cs s start i r = r ≡ dataHas update cs s start (getD (dataMarks update cs) i noMark)

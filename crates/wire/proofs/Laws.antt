@@ -12,6 +12,7 @@ use lib.Seq.{drop-cons, take-at, drop-at, take-append-seam, length-take-le, drop
 use lib.Dec.{ltb, leb, eqb}
 use borrow.Author.Tests.{ltb-true, ltb-false, leb-true, leb-false, le-leb, lt-leb, eq-eqb, ne-eqb}
 use Rattle.wire.specs.declared.error.Error.{Error}
+use Rattle.wire.specs.declared.error.ErrorKind.the-variants as kind
 use Rattle.wire.specs.declared.error.Input.{Input}
 use Rattle.wire.specs.declared.error.Input.the-variants as input
 use Rattle.wire.specs.declared.output.Written.the-variants as written
@@ -37,6 +38,16 @@ byte-fits s at h = simp (whole-fits s at 1 (omega arith))
 pub byte-short : (s : Bytes) (at : ℕ) → length s ≤ at → byteAt s at ≡ bad 1 (length s) input.Single
 unfolding byteAt
 byte-short s at h = simp (whole-short s at 1 (omega arith))
+
+-- Errors that are made: of a single input that ends too soon, and the same error about another input.
+
+pub told-short : {A : Type 0} {e : Error} {n : ℕ} → e ≡ record { kind = kind.Short; offset = n; input = input.Single } → refused {A = A} e ≡ bad 1 n input.Single
+told-short h = ap refused h
+
+pub told-about :
+    {A : Type 0} (e : Error) {f : Error} {name : Input} → f ≡ record { kind = e .kind; offset = e .offset; input = name } → refused {A = A} f ≡ about name (refused e)
+unfolding about
+told-about e h = ap refused h
 
 -- What `lacks` tells of the test that a definition makes.
 
@@ -179,11 +190,10 @@ module _ (s : Bytes) (at : ℕ) where
       (omega (arith, int-suc s at 1 (omega arith), int-step 1 0 (omega arith), int-zero s (at + 2)))
 
   pub int-four :
-      (v w x y : ℕ) → at + 4 ≤ length s → v ≡ getD s at 0 → w ≡ getD s (at + 1) 0 → x ≡ getD s (at + 2) 0 → y ≡ getD s (at + 3) 0 →
-      ok (v + 256 * (w + 256 * (x + 256 * y))) ≡ readInt s at 4
-  int-four v w x y h e f g k =
-      int-told 4 (v + 256 * (w + 256 * (x + 256 * y))) h
-      (omega (arith, int-suc s at 3 (omega arith), int-step 1 2 (omega arith), int-step 2 1 (omega arith), int-step 3 0 (omega arith), int-zero s (at + 4)))
+      {v w x y : ℕ} → at + 4 ≤ length s → v ≡ getD s at 0 → w ≡ getD s (at + 1) 0 → x ≡ getD s (at + 2) 0 → y ≡ getD s (at + 3) 0 →
+      v + 256 * (w + 256 * (x + 256 * y)) ≡ intAt s at 4
+  int-four h e f g k =
+      omega (arith, int-suc s at 3 (omega arith), int-step 1 2 (omega arith), int-step 2 1 (omega arith), int-step 3 0 (omega arith), int-zero s (at + 4))
 
 -- The size limit.
 

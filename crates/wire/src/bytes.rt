@@ -35,11 +35,7 @@ pub fn match_at(s: &[u8], at: usize, expected: &[u8]) -> Matched
     let mut i = 0;
     while i < expected.len() {
         if s.len() <= p {
-            return Matched::Refused(Error {
-                kind: ErrorKind::Short,
-                offset: s.len(),
-                input: Input::Single,
-            });
+            return Matched::Refused(Error::short(s.len()));
         }
         if s[p] != expected[i] {
             return Matched::Refused(Error {

@@ -1,6 +1,8 @@
 // Errors (document 01's refusals): a kind, an offset, and the input that the error concerns.
 // The paper's number of each kind and the inputs' numbers are definitions of specs/Errors.
 ghost use mathlib.Core.Path.{_≡_};
+ghost use Rattle.wire.specs.declared.error.ErrorKind.the-variants as kind;
+ghost use Rattle.wire.specs.declared.error.Input.the-variants as input;
 ghost use Rattle.wire.specs.Errors.{codeOf, inputNumber};
 
 // Why an input is refused, in the order of document 01's table.
@@ -57,6 +59,42 @@ pub struct Error {
     pub kind: ErrorKind,
     pub offset: usize,
     pub input: Input,
+}
+
+impl Error {
+    // A single input of so many bytes ends too soon.
+    pub fn short(size: usize) -> Error
+        ensures { λ r. ⌜ r ≡ record { kind = kind.Short; offset = size; input = input.Single } ⌝ }
+    {
+        Error {
+            kind: ErrorKind::Short,
+            offset: size,
+            input: Input::Single,
+        }
+    }
+
+    // An error about an input as a whole: its place is the start.
+    pub fn at_start(reason: ErrorKind, name: Input) -> Error
+        ensures { λ r. ⌜ r ≡ record { kind = reason; offset = 0; input = name } ⌝ }
+    {
+        Error {
+            kind: reason,
+            offset: 0,
+            input: name,
+        }
+    }
+
+    // The same error, about this input.
+    pub fn about(self, name: Input) -> Error
+        ensures { λ r. ⌜ r ≡ record { kind = self .kind; offset = self .offset; input = name } ⌝ }
+    {
+        let kind = self.kind;
+        Error {
+            kind,
+            offset: self.offset,
+            input: name,
+        }
+    }
 }
 
 impl ErrorKind {

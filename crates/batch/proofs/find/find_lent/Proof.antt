@@ -20,8 +20,8 @@ use Rattle.batch.proofs.find.find_lent.Tie as tie
 
 returns : tie.Need-returns
 returns c =
-    let args = c .before .before .before .before .args in
-    found-large (planned (lent (args .plan .now)) (args .column)) (args .section .now) (args .rows .now) (args .owner) (args .spans .now) (c .if1 .taken)
+    let args = c .before .before .before .before .before .args in
+    rw (c .at-start .ensures) (found-large (planned (lent (args .plan .now)) (args .column)) (args .section .now) (args .rows .now) (args .owner) (args .spans .now) (c .before .if1 .taken))
 
 returns-2 : tie.Need-returns-2
 returns-2 c =
@@ -78,5 +78,5 @@ pub find-lent-spec : {M : Type 1} → statement M
 find-lent-spec =
     tie.close
     (tie.spec
-    returns (λ c. search needs) (λ c κs. search needs) (λ c. search needs) (λ c. search needs) returns-2 (λ c. search needs) (λ c. search needs)
+    (λ c κs. search needs) returns (λ c. search needs) (λ c κs. search needs) (λ c. search needs) (λ c. search needs) returns-2 (λ c. search needs) (λ c. search needs)
     slice-aggregate-copy-numbers (λ c κs. search needs) same-length returns-3 (λ c κs. search needs) returns-4 (λ c. search needs) returns-5)

@@ -4,7 +4,7 @@ use Prim.Native.Nat.{_≤_, _+_}
 use mathlib.Core.Path.{_≡_, sym, ap, _∙_}
 use native.Mathlib.Omega.{arith}
 use lib.ListN.{length}
-use Rattle.wire.specs.Read.{ok}
+use Rattle.wire.specs.Read.{ok, refused}
 use Rattle.wire.specs.Integers.{toldInt}
 use Rattle.column.specs.Layout.{columnsFrom}
 use Rattle.walk.proofs.Arrays.{length-from}
@@ -57,17 +57,17 @@ fits : (c : tie.Else5) → task (c .before .before .before .before .before .befo
 fits c = maps-fit _ (checked (c .before .before .before .before .before .before)) (sized (c .before)) (mapped (c .before)) (c .if5 .left)
 
 returns : tie.Need-returns
-returns c = row-refused (asked (c .before)) _ (values-over (asked (c .before)) (c .if1 .taken))
+returns c = row-refused (asked (c .before .before)) _ (values-over (asked (c .before .before)) (c .before .if1 .taken) ∙ sym (ap refused (c .at-start .ensures)))
 
 returns-2 : tie.Need-returns-2
 returns-2 c =
-    let t : Task = asked (c .before .before) in
-    row-refused t _ (place-outside t (c .before .if1 .left) (c .if2 .taken))
+    let t : Task = asked (c .before .before .before) in
+    row-refused t _ (place-outside t (c .before .before .if1 .left) (c .before .if2 .taken) ∙ sym (ap refused (c .at-start2 .ensures)))
 
 returns-3 : tie.Need-returns-3
 returns-3 c =
-    let t : Task = asked (c .before .before .before) in
-    row-refused t _ (entries-miscounted t (c .before .before .if1 .left) (c .before .if2 .left) (c .if3 .taken))
+    let t : Task = asked (c .before .before .before .before) in
+    row-refused t _ (entries-miscounted t (c .before .before .before .if1 .left) (c .before .before .if2 .left) (c .before .if3 .taken) ∙ sym (ap refused (c .at-start3 .ensures)))
 
 add-size : tie.Need-add-size
 add-size c =
@@ -116,13 +116,13 @@ returns-6 c =
 
 returns-7 : tie.Need-returns-7
 returns-7 c =
-    let t : Task = asked (c .before .before .before .before .before) in
-    row-refused t _ (entries-none t (c .before .before .before .before .if1 .left) (c .before .before .before .if2 .left) (c .before .before .if3 .left) (sym (c .before .are-entries .ensures) ∙ c .if4 .left))
+    let t : Task = asked (c .before .before .before .before .before .before) in
+    row-refused t _ (entries-none t (c .before .before .before .before .before .if1 .left) (c .before .before .before .before .if2 .left) (c .before .before .before .if3 .left) (sym (c .before .before .are-entries .ensures) ∙ c .before .if4 .left) ∙ sym (ap refused (c .at-start4 .ensures)))
 
 pub write-row-spec : {M : Type 1} → statement M
 write-row-spec =
     tie.close
     (tie.spec
-    returns returns-2 (λ c. search needs) returns-3 (λ c κs. search needs) (λ c κs. search needs) (λ c. search needs) (λ c. search needs)
-    (λ c κs. search needs) add-size (λ c. search needs) returns-4 put-maps-requires add-put-fields put-fields-requires returns-5
+    (λ c κs. search needs) returns (λ c κs. search needs) returns-2 (λ c. search needs) (λ c κs. search needs) returns-3 (λ c κs. search needs) (λ c κs. search needs) (λ c. search needs) (λ c. search needs)
+    (λ c κs. search needs) add-size (λ c. search needs) returns-4 put-maps-requires add-put-fields put-fields-requires (λ c κs. search needs) returns-5
     (λ c. search needs) returns-6 returns-7)

@@ -1,7 +1,7 @@
 -- The definition's steps, up to the first error.
 -- Assumes nothing.
 use mathlib.Core.Path.{sym, ap, _∙_}
-use Rattle.wire.specs.Read.{toldMatch}
+use Rattle.wire.specs.Read.{toldMatch, refused}
 use Rattle.wire.proofs.Laws.{sized-over, sized-within}
 use Rattle.header.specs.Header.{headerOf}
 use borrow.Author.Needs.{needs}
@@ -10,7 +10,7 @@ use Rattle.header.proofs.header.read_header.Tie as tie
 
 returns : tie.Need-returns
 unfolding headerOf
-returns c = simp (sized-over (c .before .before .args .s .now) (c .if1 .taken))
+returns c = ap refused (c .at-start .ensures) ∙ simp (sized-over (c .before .before .before .args .s .now) (c .before .if1 .taken))
 
 returns-2 : tie.Need-returns-2
 unfolding headerOf
@@ -27,4 +27,4 @@ pub read-header-spec : {M : Type 1} → statement M
 read-header-spec =
     tie.close
     (tie.spec
-    returns (λ c. search needs) (λ c κs. search needs) (λ c. search needs) (λ c. search needs) (λ c κs. search needs) returns-2 returns-3)
+    (λ c κs. search needs) returns (λ c. search needs) (λ c κs. search needs) (λ c. search needs) (λ c. search needs) (λ c κs. search needs) returns-2 returns-3)

@@ -1,10 +1,10 @@
 -- Each way out is a law of the first checks.
 -- Assumes nothing.
 use Prim.Native.Nat.{_≤_}
-use mathlib.Core.Path.{sym}
+use mathlib.Core.Path.{sym, ap, _∙_}
 use native.Mathlib.Omega.{arith}
 use lib.ListN.{length}
-use Rattle.wire.specs.Read.{limit}
+use Rattle.wire.specs.Read.{limit, refused}
 use Rattle.plan.specs.Plans.{lent}
 use Rattle.jump.proofs.Answers.{asked-large, asked-column, asked-well}
 use borrow.Author.Needs.{needs}
@@ -13,8 +13,8 @@ use Rattle.jump.proofs.look.check_asked.Tie as tie
 
 returns : tie.Need-returns
 returns c =
-    let args = c .before .before .args in
-    sym (asked-large (lent (args .plan .now)) (args .row .now) (args .k) (c .if1 .taken))
+    let args = c .before .before .before .args in
+    ap refused (c .at-start .ensures) ∙ sym (asked-large (lent (args .plan .now)) (args .row .now) (args .k) (c .before .if1 .taken))
 
 returns-2 : tie.Need-returns-2
 returns-2 c =
@@ -41,4 +41,4 @@ pub check-asked-spec : {M : Type 1} → statement M
 check-asked-spec =
     tie.close
     (tie.spec
-    returns (λ c. search needs) (λ c κs. search needs) returns-2 returns-3 returns-4)
+    (λ c κs. search needs) returns (λ c. search needs) (λ c κs. search needs) returns-2 returns-3 returns-4)

@@ -5,14 +5,15 @@ use native.Mathlib.Omega.{arith}
 use Rattle.wire.specs.Read.{toldMatch}
 use Rattle.plan.specs.Plans.{lent}
 use Rattle.jump.proofs.Answers.{open-short, open-marked, open-well}
+use Rattle.wire.proofs.Laws.{told-short}
 use borrow.Author.Needs.{needs}
 use Rattle.jump.proofs.look.open_map.Statement.{statement}
 use Rattle.jump.proofs.look.open_map.Tie as tie
 
 returns : tie.Need-returns
 returns c =
-    let args = c .before .before .before .args in
-    sym (open-short (lent (args .plan .now)) (args .row .now) (c .if1 .taken))
+    let args = c .before .before .before .before .args in
+    told-short (c .short .ensures) ∙ sym (open-short (lent (args .plan .now)) (args .row .now) (c .before .if1 .taken))
 
 returns-2 : tie.Need-returns-2
 returns-2 c =
@@ -30,5 +31,5 @@ pub open-map-spec : {M : Type 1} → statement M
 open-map-spec =
     tie.close
     (tie.spec
-    (λ c. search needs) returns (λ c. search needs) (λ c κs. search needs) (λ c. search needs) (λ c. search needs) (λ c. search needs) returns-2
+    (λ c. search needs) (λ c κs. search needs) returns (λ c. search needs) (λ c κs. search needs) (λ c. search needs) (λ c. search needs) (λ c. search needs) returns-2
     returns-3)

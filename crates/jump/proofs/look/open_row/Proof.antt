@@ -4,7 +4,7 @@ use Prim.Native.Nat.{_≤_}
 use mathlib.Core.Path.{sym, ap, _∙_}
 use native.Mathlib.Omega.{arith}
 use lib.ListN.{length}
-use Rattle.wire.specs.Read.{limit}
+use Rattle.wire.specs.Read.{limit, refused}
 use Rattle.wire.specs.Integers.{toldInt}
 use Rattle.jump.proofs.Handled.{opened-large, opened-closed, opened-well}
 use borrow.Author.Needs.{needs}
@@ -13,8 +13,8 @@ use Rattle.jump.proofs.look.open_row.Tie as tie
 
 returns : tie.Need-returns
 returns c =
-    let args = c .before .before .args in
-    sym (opened-large (args .t1) (args .row .now) (c .if1 .taken))
+    let args = c .before .before .before .args in
+    ap refused (c .at-start .ensures) ∙ sym (opened-large (args .t1) (args .row .now) (c .before .if1 .taken))
 
 returns-2 : tie.Need-returns-2
 returns-2 c =
@@ -37,4 +37,4 @@ pub open-row-spec : {M : Type 1} → statement M
 open-row-spec =
     tie.close
     (tie.spec
-    returns (λ c κs. search needs) (λ c. search needs) (λ c κs. search needs) (λ c. search needs) returns-2 returns-3)
+    (λ c κs. search needs) returns (λ c κs. search needs) (λ c. search needs) (λ c κs. search needs) (λ c. search needs) returns-2 returns-3)

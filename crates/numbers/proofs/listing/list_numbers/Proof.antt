@@ -2,6 +2,7 @@
 -- Assumes nothing.
 use mathlib.Core.Path.{refl, sym, ap, _∙_}
 use lib.ListN.{length, replicate}
+use Rattle.wire.specs.Read.{refused}
 use Rattle.schema.specs.declared.reader.PlaceRead.{PlaceRead}
 use Rattle.schema.specs.Told.{toldPlace}
 use Rattle.numbers.proofs.Listed.{lists-error, listed-refused, listed-room, lists-all}
@@ -18,9 +19,10 @@ returns c =
 
 returns-2 : tie.Need-returns-2
 returns-2 c =
-    lists-error _ (c .before .before .before .before .before .before .before .args .table .now) _
-    (listed-refused (c .before .before .before .before .before .before .before .args .file .now) (λ i. c .before .before .before .before .before .before .shared-slice-known .given i .fits) (replicate 512 0) refl (length (c .before .before .before .before .before .before .before .args .table .now)) (c .before .e .given .0 .0)
-    (sym (c .before .before .before .read-file .ensures) ∙ ap (λ (r : PlaceRead). toldPlace r (c .before .before .before .read-file .last .1 .0)) (c .before .e .given .1)))
+    lists-error _ (c .before .before .before .before .before .before .before .before .args .table .now) _
+    (listed-refused (c .before .before .before .before .before .before .before .before .args .file .now) (λ i. c .before .before .before .before .before .before .before .shared-slice-known .given i .fits) (replicate 512 0) refl (length (c .before .before .before .before .before .before .before .before .args .table .now)) (c .before .before .e .given .0 .0)
+    (sym (c .before .before .before .before .read-file .ensures) ∙ ap (λ (r : PlaceRead). toldPlace r (c .before .before .before .before .read-file .last .1 .0)) (c .before .before .e .given .1))
+    ∙ sym (ap refused (c .about .ensures)))
 
 returns-3 : tie.Need-returns-3
 returns-3 c =
@@ -32,5 +34,5 @@ pub list-numbers-spec : {M : Type 1} → statement M
 list-numbers-spec =
     tie.close
     (tie.spec
-    (λ c κs. search needs) (λ c. search needs) (λ c. search needs) (λ c κs. search needs) returns (λ c κs. search needs) returns-2
+    (λ c κs. search needs) (λ c. search needs) (λ c κs. search needs) (λ c. search needs) (λ c κs. search needs) returns (λ c κs. search needs) returns-2
     (λ c. search needs) returns-3)

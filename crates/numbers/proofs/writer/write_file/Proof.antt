@@ -6,12 +6,13 @@ use Rattle.schema.specs.declared.reader.PlaceRead.{PlaceRead}
 use Rattle.wire.proofs.Laws.{wrote-error, wrote-piece, fitting-fits}
 use Rattle.schema.specs.Told.{toldPlace}
 use Rattle.numbers.proofs.Writing.{numbers-many, held-count, file-unwritten, file-written, file-room}
+use Rattle.wire.specs.Read.{refused}
 use borrow.Author.Needs.{needs}
 use Rattle.numbers.proofs.writer.write_file.Statement.{statement}
 use Rattle.numbers.proofs.writer.write_file.Tie as tie
 
 returns : tie.Need-returns
-returns c = wrote-error _ (c .before .before .before .args .out .now) _ (numbers-many (c .before .before .before .args .numbers .now) (length (c .before .before .before .args .out .now)) (c .if1 .taken))
+returns c = wrote-error _ (c .before .before .before .before .args .out .now) _ (numbers-many (c .before .before .before .before .args .numbers .now) (length (c .before .before .before .before .args .out .now)) (c .before .if1 .taken) ∙ sym (ap refused (c .at-start .ensures)))
 
 slice-aggregate-read-file : tie.Need-slice-aggregate-read-file
 slice-aggregate-read-file c = held-count (c .before .before .code-numbers .ensures)
@@ -44,6 +45,6 @@ pub write-file-spec : {M : Type 1} → statement M
 write-file-spec =
     tie.close
     (tie.spec
-    returns (λ c. search needs) (λ c κs. search needs) (λ c. search needs) slice-aggregate-read-file (λ c κs. search needs) (λ c. search needs)
+    (λ c κs. search needs) returns (λ c. search needs) (λ c κs. search needs) (λ c. search needs) slice-aggregate-read-file (λ c κs. search needs) (λ c. search needs)
     (λ c κs. search needs) (λ c. search needs) returns-2 (λ c. search needs) slice-aggregate-copy-into (λ c κs. search needs) returns-3
     (λ c. search needs) returns-4)

@@ -2,7 +2,7 @@
 -- Assumes nothing.
 use mathlib.Core.Path.{sym, ap, _∙_}
 use lib.ListN.{length}
-use Rattle.wire.specs.Read.{toldMatch}
+use Rattle.wire.specs.Read.{toldMatch, refused}
 use Rattle.wire.specs.Integers.{toldInt}
 use Rattle.wire.proofs.Laws.{sized-over, sized-within}
 use Rattle.options.specs.Options.{optionsOf}
@@ -12,7 +12,7 @@ use Rattle.options.proofs.options.read_options.Tie as tie
 
 returns : tie.Need-returns
 unfolding optionsOf
-returns c = simp (sized-over (c .before .before .args .s .now) (c .if1 .taken))
+returns c = ap refused (c .at-start .ensures) ∙ simp (sized-over (c .before .before .before .args .s .now) (c .before .if1 .taken))
 
 returns-2 : tie.Need-returns-2
 unfolding optionsOf
@@ -42,5 +42,5 @@ pub read-options-spec : {M : Type 1} → statement M
 read-options-spec =
     tie.close
     (tie.spec
-    returns (λ c. search needs) (λ c κs. search needs) (λ c. search needs) (λ c. search needs) (λ c κs. search needs) (λ c. search needs)
+    (λ c κs. search needs) returns (λ c. search needs) (λ c κs. search needs) (λ c. search needs) (λ c. search needs) (λ c κs. search needs) (λ c. search needs)
     (λ c. search needs) (λ c κs. search needs) returns-2 returns-3 returns-4)

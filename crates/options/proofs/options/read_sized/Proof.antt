@@ -5,7 +5,7 @@ use mathlib.Core.Path.{sym, ap, _∙_}
 use lib.ListN.{length}
 use borrow.Author.Tests.{le-leb, lt-leb}
 use Rattle.wire.specs.Read.{check, toldMatch}
-use Rattle.wire.proofs.Laws.{lacked-lt, enough-le, whole-short, whole-fits}
+use Rattle.wire.proofs.Laws.{told-short, lacked-lt, enough-le, whole-short, whole-fits}
 use Rattle.options.specs.Options.{optionsSized}
 use borrow.Author.Needs.{needs}
 use native.Mathlib.Omega.{arith}
@@ -15,8 +15,8 @@ use Rattle.options.proofs.options.read_sized.Tie as tie
 returns : tie.Need-returns
 unfolding optionsSized
 returns c =
-    let a = c .before .before .before .args in
-    simp (whole-short (a .s .now) 3 (a .size) (lacked-lt (length (a .s .now)) (3 + a .size) (c .before .lacks .ensures) (c .if1 .taken)))
+    let a = c .before .before .before .before .args in
+    told-short (c .short .ensures) ∙ simp (whole-short (a .s .now) 3 (a .size) (lacked-lt (length (a .s .now)) (3 + a .size) (c .before .before .lacks .ensures) (c .before .if1 .taken)))
 
 returns-2 : tie.Need-returns-2
 unfolding optionsSized check
@@ -52,5 +52,5 @@ pub read-sized-spec : {M : Type 1} → statement M
 read-sized-spec =
     tie.close
     (tie.spec
-    (λ c κs. search needs) returns returns-2 (λ c. search needs) (λ c κs. search needs) (λ c. search needs) (λ c. search needs) add-read-rest
+    (λ c κs. search needs) (λ c κs. search needs) returns returns-2 (λ c. search needs) (λ c κs. search needs) (λ c. search needs) (λ c. search needs) add-read-rest
     (λ c κs. search needs) returns-3 returns-4)

@@ -1,7 +1,8 @@
 -- Each way out decides one test of the definition, in its order.
 -- Assumes nothing.
+use mathlib.Core.Path.{ap, _∙_}
 use borrow.Author.Tests.{le-leb, lt-leb}
-use Rattle.wire.specs.Read.{check, about, sizedBy}
+use Rattle.wire.specs.Read.{check, about, sizedBy, refused}
 use Rattle.options.specs.Options.{stringsSize}
 use borrow.Author.Needs.{needs}
 use Rattle.options.proofs.options.size_strings.Statement.{statement}
@@ -9,16 +10,16 @@ use Rattle.options.proofs.options.size_strings.Tie as tie
 
 returns : tie.Need-returns
 unfolding stringsSize sizedBy check about
-returns c = simp (lt-leb _ _ (c .if1 .taken))
+returns c = ap refused (c .at-start .ensures) ∙ simp (lt-leb _ _ (c .before .if1 .taken))
 
 returns-2 : tie.Need-returns-2
 unfolding stringsSize sizedBy check about
-returns-2 c = simp (le-leb _ _ (c .before .if1 .left), lt-leb _ _ (c .if2 .taken))
+returns-2 c = ap refused (c .at-start2 .ensures) ∙ simp (le-leb _ _ (c .before .before .if1 .left), lt-leb _ _ (c .before .if2 .taken))
 
 returns-3 : tie.Need-returns-3
 unfolding stringsSize sizedBy check about
 returns-3 c =
-    simp (le-leb _ _ (c .before .before .if1 .left), le-leb _ _ (c .before .if2 .left), lt-leb _ _ (c .if3 .taken))
+    ap refused (c .at-start3 .ensures) ∙ simp (le-leb _ _ (c .before .before .before .if1 .left), le-leb _ _ (c .before .before .if2 .left), lt-leb _ _ (c .before .if3 .taken))
 
 returns-4 : tie.Need-returns-4
 unfolding stringsSize sizedBy check about
@@ -58,5 +59,5 @@ pub size-strings-spec : {M : Type 1} → statement M
 size-strings-spec =
     tie.close
     (tie.spec
-    returns returns-2 returns-3 (λ c. search needs) returns-4 (λ c. search needs) (λ c. search needs) returns-5 (λ c. search needs)
+    (λ c κs. search needs) returns (λ c κs. search needs) returns-2 (λ c κs. search needs) returns-3 (λ c. search needs) returns-4 (λ c. search needs) (λ c. search needs) returns-5 (λ c. search needs)
     (λ c. search needs) (λ c. search needs) returns-6 (λ c. search needs) (λ c. search needs) (λ c. search needs) returns-7)

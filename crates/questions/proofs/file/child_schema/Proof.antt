@@ -23,16 +23,16 @@ child-number-requires c κs =
 
 returns : tie.Need-returns
 returns c =
-    let exit : List ℕ = c .before .before .before .before .before .before .read-file .last .1 .0 in
-    let h : fillFile (c .before .before .before .before .before .before .before .before .before .args .file .now) (replicate 512 0) ≡ ok (placed (c .before .before .before .before .p .given .0 .0) exit) = sym (c .before .before .before .before .before .before .read-file .ensures) ∙ ap (λ (r : PlaceRead). toldPlace r exit) (c .before .before .before .before .p .given .1) in
-    let s = schemas-read (c .before .before .before .before .before .before .before .before .before .args .file .now) (replicate 512 0) (λ i. c .before .before .before .before .before .before .before .before .shared-slice-known .given i .fits) (length-replicate {A = ℕ} 512 0) _ h in
-    sym (child-none-of (c .before .before .before .before .before .before .before .before .before .args .file .now) (c .before .before .before .before .before .before .before .before .before .args .id) _ s (sym (c .before .child-number .ensures) ∙ c .if1 .taken))
+    let exit : List ℕ = c .before .before .before .before .before .before .before .read-file .last .1 .0 in
+    let h : fillFile (c .before .before .before .before .before .before .before .before .before .before .args .file .now) (replicate 512 0) ≡ ok (placed (c .before .before .before .before .before .p .given .0 .0) exit) = sym (c .before .before .before .before .before .before .before .read-file .ensures) ∙ ap (λ (r : PlaceRead). toldPlace r exit) (c .before .before .before .before .before .p .given .1) in
+    let s = schemas-read (c .before .before .before .before .before .before .before .before .before .before .args .file .now) (replicate 512 0) (λ i. c .before .before .before .before .before .before .before .before .before .shared-slice-known .given i .fits) (length-replicate {A = ℕ} 512 0) _ h in
+    ap refused (c .at-start .ensures) ∙ sym (child-none-of (c .before .before .before .before .before .before .before .before .before .before .args .file .now) (c .before .before .before .before .before .before .before .before .before .before .args .id) _ s (sym (c .before .before .child-number .ensures) ∙ c .before .if1 .taken))
 
 returns-2 : tie.Need-returns-2
 returns-2 c =
     let exit : List ℕ = c .before .before .before .before .read-file .last .1 .0 in
     let h : fillFile (c .before .before .before .before .before .before .before .args .file .now) (replicate 512 0) ≡ refused (c .before .before .e .given .0 .0) = sym (c .before .before .before .before .read-file .ensures) ∙ ap (λ (r : PlaceRead). toldPlace r exit) (c .before .before .e .given .1) in
-    ap (λ (x : Error). refused x) (c .of-schema .ensures)
+    ap (λ (x : Error). refused x) (c .about .ensures)
     ∙ sym (child-refused (c .before .before .before .before .before .before .before .args .file .now) (c .before .before .before .before .before .before .before .args .id) (c .before .before .e .given .0 .0) (schemas-refused (c .before .before .before .before .before .before .before .args .file .now) (replicate 512 0) (λ i. c .before .before .before .before .before .before .shared-slice-known .given i .fits) (length-replicate {A = ℕ} 512 0) (c .before .before .e .given .0 .0) h))
 
 returns-3 : tie.Need-returns-3
@@ -46,4 +46,4 @@ pub child-schema-spec : {M : Type 1} → statement M
 child-schema-spec =
     tie.close
     (tie.spec
-    (λ c κs. search needs) (λ c. search needs) (λ c κs. search needs) (λ c. search needs) child-number-requires returns returns-2 returns-3)
+    (λ c κs. search needs) (λ c. search needs) (λ c κs. search needs) (λ c. search needs) child-number-requires (λ c κs. search needs) returns returns-2 returns-3)

@@ -5,13 +5,14 @@ use Rattle.questions.specs.declared.file.Opened.{Opened}
 use Rattle.tree.specs.Table.{Slots}
 use Rattle.questions.specs.Questions.{toldOpened, columnOf}
 use Rattle.questions.proofs.Questions.{select-refused, column-none, column-chapter, column-plain}
+use Rattle.wire.specs.Read.{refused}
 use borrow.Author.Needs.{needs}
 use native.Mathlib.Omega.{arith}
 use Rattle.questions.proofs.file.column_at.Statement.{statement}
 use Rattle.questions.proofs.file.column_at.Tie as tie
 
 returns : tie.Need-returns
-returns c = sym (column-none (c .before .before .before .before .before .before .before .args .file .now) (c .before .before .before .before .before .before .before .args .number) (c .before .before .before .before .before .before .before .args .column) _ _ _ (c .before .before .before .before .open-schema .last .1 .1 .0) (sym (c .before .before .before .before .open-schema .ensures .answers) ∙ ap (λ (r : Opened). toldOpened r (c .before .before .before .before .open-schema .last .1 .1 .0)) (c .before .before .start .given .1)) (c .if1 .taken))
+returns c = ap refused (c .at-start .ensures) ∙ sym (column-none (c .before .before .before .before .before .before .before .before .args .file .now) (c .before .before .before .before .before .before .before .before .args .number) (c .before .before .before .before .before .before .before .before .args .column) _ _ _ (c .before .before .before .before .before .open-schema .last .1 .1 .0) (sym (c .before .before .before .before .before .open-schema .ensures .answers) ∙ ap (λ (r : Opened). toldOpened r (c .before .before .before .before .before .open-schema .last .1 .1 .0)) (c .before .before .before .start .given .1)) (c .before .if1 .taken))
 
 child-number-requires : tie.Need-child-number-requires
 child-number-requires c κs = let s : Slots (c .before .before .before .before .start .given .0 .0) (c .before .before .before .before .start .given .0 .1 .0) (c .before .before .before .before .start .given .0 .1 .1 .0) = rw (c .before .before .before .before .start .given .1) at (c .before .before .before .before .before .before .open-schema .ensures .slots) in (s .some, s .all)
@@ -33,7 +34,7 @@ column-at-spec =
     (λ c κs. search needs)
     (λ c. search needs)
     (λ c. search needs)
-    returns
+    (λ c κs. search needs) returns
     (λ c. let s : Slots (c .before .before .start .given .0 .0) (c .before .before .start .given .0 .1 .0) (c .before .before .start .given .0 .1 .1 .0) = rw (c .before .before .start .given .1) at (c .before .before .before .before .open-schema .ensures .slots) in omega (arith, s .inside, c .if1 .left))
     (λ c. let s : Slots (c .before .before .start .given .0 .0) (c .before .before .start .given .0 .1 .0) (c .before .before .start .given .0 .1 .1 .0) = rw (c .before .before .start .given .1) at (c .before .before .before .before .open-schema .ensures .slots) in omega (arith, s .inside, c .if1 .left))
     (λ c. let s : Slots (c .before .before .start .given .0 .0) (c .before .before .start .given .0 .1 .0) (c .before .before .start .given .0 .1 .1 .0) = rw (c .before .before .start .given .1) at (c .before .before .before .before .open-schema .ensures .slots) in omega (arith, s .inside, c .if1 .left))

@@ -20,11 +20,11 @@ use Rattle.questions.proofs.file.open_schema.Tie as tie
 returns : tie.Need-returns
 unfolding selectedOf
 returns c =
-    let a = c .before .before .before .before .before .before .before .args in
-    let exit : List ℕ = c .before .before .before .before .read-file .last .1 .0 in
-    let h : fillFile (a .file .now) (a .table .now) ≡ ok (placed (c .before .before .p .given .0 .0) exit) = sym (c .before .before .before .before .read-file .ensures) ∙ ap (λ (r : PlaceRead). toldPlace r exit) (c .before .before .p .given .1) in
+    let a = c .before .before .before .before .before .before .before .before .args in
+    let exit : List ℕ = c .before .before .before .before .before .read-file .last .1 .0 in
+    let h : fillFile (a .file .now) (a .table .now) ≡ ok (placed (c .before .before .before .p .given .0 .0) exit) = sym (c .before .before .before .before .before .read-file .ensures) ∙ ap (λ (r : PlaceRead). toldPlace r exit) (c .before .before .before .p .given .1) in
     record {
-      answers = sym (with-missing (a .file .now) (a .number) _ _ exit (schemas-read (a .file .now) (a .table .now) (λ i. c .before .before .before .before .before .before .shared-slice-known .given i .fits) (c .before .before .before .before .before .before .before .pre) _ h) (c .if1 .taken));
+      answers = ap refused (c .at-start .ensures) ∙ sym (with-missing (a .file .now) (a .number) _ _ exit (schemas-read (a .file .now) (a .table .now) (λ i. c .before .before .before .before .before .before .before .shared-slice-known .given i .fits) (c .before .before .before .before .before .before .before .before .pre) _ h) (c .before .if1 .taken));
       slots = tt;
     }
 
@@ -36,7 +36,7 @@ returns-2 c =
     let h : fillFile (a .file .now) (a .table .now) ≡ refused (c .before .before .e .given .0 .0) = sym (c .before .before .before .before .read-file .ensures) ∙ ap (λ (r : PlaceRead). toldPlace r exit) (c .before .before .e .given .1) in
     record {
       answers =
-          ap (λ (x : Error). refused x) (c .of-schema .ensures)
+          ap (λ (x : Error). refused x) (c .about .ensures)
           ∙ sym (with-refused (a .file .now) (a .number) _ (c .before .before .e .given .0 .0) (schemas-refused (a .file .now) (a .table .now) (λ i. c .before .before .before .before .before .before .shared-slice-known .given i .fits) (c .before .before .before .before .before .before .before .pre) (c .before .before .e .given .0 .0) h));
       slots = tt;
     }
@@ -64,5 +64,5 @@ pub open-schema-spec : {M : Type 1} → statement M
 open-schema-spec =
     tie.close
     (tie.spec
-    (λ c κs. search needs) (λ c. search needs) (λ c κs. search needs) (λ c. search needs) returns (λ c. omega (arith, few c))
+    (λ c κs. search needs) (λ c. search needs) (λ c κs. search needs) (λ c. search needs) (λ c κs. search needs) returns (λ c. omega (arith, few c))
     (λ c. omega (arith, few c)) (λ c. omega (arith, few c)) returns-2 returns-3)

@@ -5,7 +5,7 @@ use mathlib.Core.Path.{_≡_, refl, sym, ap, _∙_}
 use mathlib.Core.List.{List}
 use native.Mathlib.Omega.{arith}
 use lib.ListN.{length}
-use Rattle.wire.specs.Read.{Bytes, Read, ok, bad, limit}
+use Rattle.wire.specs.Read.{Bytes, ok, refused, limit}
 use Rattle.wire.specs.Integers.{toldInt}
 use Rattle.column.specs.declared.column.Column.{Column}
 use Rattle.column.specs.Packed.{packedFrom}
@@ -21,9 +21,9 @@ use Rattle.row.proofs.rows.field_count_packed.Tie as tie
 
 returns : tie.Need-returns
 returns c =
-    let the-args = c .before .before .args in
+    let the-args = c .before .before .before .args in
     let args = the-args in
-    sym (count-large (packedFrom (min (args .count) 64) 0 (args .slots .now)) (args .row .now) (c .if1 .taken))
+    ap refused (c .at-start .ensures) ∙ sym (count-large (packedFrom (min (args .count) 64) 0 (args .slots .now)) (args .row .now) (c .before .if1 .taken))
 
 count-set-requires : tie.Need-count-set-requires
 unfolding presenceBytes
@@ -43,8 +43,8 @@ count-set-requires c κs =
     let (e, l, z) = opened-ok cs row 0 (enum-told .given .0 .0) o in
     omega (arith, e, l, map-bits (nullables cs), count-nullable .ensures)
 
-add-t19 : tie.Need-add-t19
-add-t19 c =
+add-t18 : tie.Need-add-t18
+add-t18 c =
     let the-args = c .before .before .before .before .before .before .before .before .before .args in
     let the-lesser = c .before .before .before .before .before .before .lesser in
     let the-count-nullable = c .before .before .count-nullable in
@@ -59,10 +59,10 @@ add-t19 c =
 
 returns-2 : tie.Need-returns-2
 returns-2 c =
-    let the-args = c .before .before .before .before .before .before .before .args in
-    let the-if1 = c .before .before .before .before .before .if1 in
-    let the-lesser = c .before .before .before .before .lesser in
-    let the-open-row = c .before .before .before .open-row in
+    let the-args = c .before .before .before .before .before .before .before .before .args in
+    let the-if1 = c .before .before .before .before .before .before .if1 in
+    let the-lesser = c .before .before .before .before .before .lesser in
+    let the-open-row = c .before .before .before .before .open-row in
     let args = the-args in
     let if1 = the-if1 in
     let lesser = the-lesser in
@@ -70,7 +70,7 @@ returns-2 c =
     let cs : List Column = packedFrom (lesser .result) 0 (args .slots .now) in
     let same : cs ≡ packedFrom (min (args .count) 64) 0 (args .slots .now) = ap (λ (n : ℕ). packedFrom n 0 (args .slots .now)) (lesser .ensures) in
     let h : length (args .row .now) ≤ limit = omega (arith, if1 .left) in
-    sym (count-closed cs (args .row .now) h (sym (open-row .ensures) ∙ ap toldInt (c .before .opened .given .1))) ∙ ap (λ (cs : List Column). fieldCount cs (args .row .now)) same
+    ap refused (c .about .ensures) ∙ sym (count-closed cs (args .row .now) h (sym (open-row .ensures) ∙ ap toldInt (c .before .before .opened .given .1))) ∙ ap (λ (cs : List Column). fieldCount cs (args .row .now)) same
 
 returns-3 : tie.Need-returns-3
 returns-3 c =
@@ -101,5 +101,5 @@ pub field-count-packed-spec : {M : Type 1} → statement M
 field-count-packed-spec =
     tie.close
     (tie.spec
-    returns (λ c κs. search needs) (λ c κs. search needs) (λ c. search needs) (λ c. search needs) (λ c κs. search needs) (λ c κs. search needs)
-    count-set-requires add-t19 returns-2 returns-3)
+    (λ c κs. search needs) returns (λ c κs. search needs) (λ c κs. search needs) (λ c. search needs) (λ c κs. search needs) (λ c. search needs) (λ c κs. search needs) (λ c κs. search needs)
+    count-set-requires add-t18 returns-2 returns-3)

@@ -5,7 +5,7 @@ use mathlib.Core.Path.{_≡_, refl, sym, ap, _∙_}
 use mathlib.Core.List.{List}
 use native.Mathlib.Omega.{arith}
 use lib.ListN.{length}
-use Rattle.wire.specs.Read.{Bytes, ok, bad}
+use Rattle.wire.specs.Read.{Bytes, ok, bad, refused}
 use Rattle.wire.specs.Integers.{toldInt}
 use Rattle.column.specs.declared.column.Column.{Column}
 use Rattle.column.specs.Packed.{packedFrom}
@@ -19,14 +19,14 @@ use Rattle.row.proofs.rows.look_up_packed.Tie as tie
 
 returns : tie.Need-returns
 returns c =
-    let args = c .before .before .args in
-    sym (look-up-large (packedFrom (min (args .count) 64) 0 (args .slots .now)) (args .row .now) (args .k) (c .if1 .taken))
+    let args = c .before .before .before .args in
+    ap refused (c .at-start .ensures) ∙ sym (look-up-large (packedFrom (min (args .count) 64) 0 (args .slots .now)) (args .row .now) (args .k) (c .before .if1 .taken))
 
 returns-2 : tie.Need-returns-2
 returns-2 c =
-    let args = c .before .before .before .before .args in
-    let if1 = c .before .before .if1 in
-    sym (look-up-sized (packedFrom (min (args .count) 64) 0 (args .slots .now)) (args .row .now) (args .k) (omega (arith, if1 .left)) ∙ look-up-column (packedFrom (min (args .count) 64) 0 (args .slots .now)) (args .row .now) (args .k) (omega (arith, length-from (args .slots .now) (min (args .count) 64) 0, c .before .lesser .ensures, c .if2 .taken)))
+    let args = c .before .before .before .before .before .args in
+    let if1 = c .before .before .before .if1 in
+    ap refused (c .at-start2 .ensures) ∙ sym (look-up-sized (packedFrom (min (args .count) 64) 0 (args .slots .now)) (args .row .now) (args .k) (omega (arith, if1 .left)) ∙ look-up-column (packedFrom (min (args .count) 64) 0 (args .slots .now)) (args .row .now) (args .k) (omega (arith, length-from (args .slots .now) (min (args .count) 64) 0, c .before .before .lesser .ensures, c .before .if2 .taken)))
 
 look-at-requires : tie.Need-look-at-requires
 look-at-requires c κs =
@@ -54,5 +54,5 @@ pub look-up-packed-spec : {M : Type 1} → statement M
 look-up-packed-spec =
     tie.close
     (tie.spec
-    returns (λ c κs. search needs) returns-2 (λ c κs. search needs) (λ c. search needs) (λ c κs. search needs) (λ c. search needs)
+    (λ c κs. search needs) returns (λ c κs. search needs) (λ c κs. search needs) returns-2 (λ c κs. search needs) (λ c. search needs) (λ c κs. search needs) (λ c. search needs)
     look-at-requires returns-3 returns-4)

@@ -17,6 +17,7 @@ use Rattle.walk.specs.Rows.{opened}
 use Rattle.walk.proofs.Laws.{bit-zero, opened-short, opened-bad, opened-well, bits-found, bits-next, bits-end}
 use Rattle.walk.proofs.Arrays.{rest}
 use Rattle.walk.proofs.Slots.{length-from, marked, bit-on, no-chapter-set}
+use Rattle.wire.proofs.Laws.{told-short}
 use borrow.Author.Needs.{needs}
 use Rattle.row.proofs.rows.open_row.Statement.{statement}
 use Rattle.row.proofs.rows.open_row.Tie as tie
@@ -30,15 +31,15 @@ abbrev μ-loop : tie.MeasureT-loop
 returns : tie.Need-returns Inv-loop μ-loop
 unfolding presenceBytes
 returns c =
-    let args = c .before .before .before .before .before .args in
-    let count-nullable = c .before .before .before .count-nullable in
-    let map-bytes = c .before .before .map-bytes in
-    let h = ltb-true (length (args .row .now)) (args .at + map-bytes .result) (sym (c .before .lacks .ensures) ∙ c .if1 .taken) in
+    let args = c .before .before .before .before .before .before .args in
+    let count-nullable = c .before .before .before .before .count-nullable in
+    let map-bytes = c .before .before .before .map-bytes in
+    let h = ltb-true (length (args .row .now)) (args .at + map-bytes .result) (sym (c .before .before .lacks .ensures) ∙ c .before .if1 .taken) in
     let e : map-bytes .result ≡ presenceBytes (packedFrom (args .n) 0 (args .slots .now)) = map-bytes .ensures ∙ ap mapBytes (count-nullable .ensures) in
-    sym (opened-short (packedFrom (args .n) 0 (args .slots .now)) (args .row .now) (args .at) (omega (arith, h, e)))
+    told-short (c .short .ensures) ∙ sym (opened-short (packedFrom (args .n) 0 (args .slots .now)) (args .row .now) (args .at) (omega (arith, h, e)))
 
-add-t17 : tie.Need-add-t17 Inv-loop μ-loop
-add-t17 c =
+add-t15 : tie.Need-add-t15 Inv-loop μ-loop
+add-t15 c =
     let args = c .before .before .before .before .before .before .before .args in
     let map-bytes = c .before .before .before .before .map-bytes in
     let lacks = c .before .before .before .lacks in
@@ -110,7 +111,7 @@ pub open-row-spec : {M : Type 1} → statement M
 open-row-spec =
     tie.close
     (tie.spec
-    Inv-loop μ-loop (λ c κs. search needs) (λ c κs. search needs) (λ c κs. search needs) returns (λ c κs. search needs) add-t17 returns-2
+    Inv-loop μ-loop (λ c κs. search needs) (λ c κs. search needs) (λ c κs. search needs) (λ c κs. search needs) returns (λ c κs. search needs) add-t15 returns-2
     loop-holds (λ c κs. search needs) (λ c. search needs) (λ c. search needs) (λ c. search needs) (λ c κs. search needs) (λ c. search needs)
     returns-3 (λ c κs. search needs) (λ c κs. search needs) add-bit (λ c. search needs) (λ c. search needs) loop-again (λ c. search needs)
     returns-4)

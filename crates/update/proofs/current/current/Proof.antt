@@ -5,7 +5,7 @@ use mathlib.Core.Path.{_≡_, sym, ap, _∙_}
 use mathlib.Core.List.{List}
 use native.Mathlib.Omega.{arith}
 use lib.ListN.{length}
-use Rattle.wire.specs.Read.{Bytes, Read, ok, bad, limit}
+use Rattle.wire.specs.Read.{Bytes, Read, ok, bad, limit, refused}
 use Rattle.column.specs.declared.column.Column.{Column}
 use Rattle.column.specs.Layout.{columnsIn}
 use Rattle.walk.specs.Rows.{lookUp, lookUpRow}
@@ -33,10 +33,10 @@ told : (a : tie.After-look-update) → lookUpdate (columnsIn (a .before .before 
 told a = sym (look-update-sized _ _ _ (update-within (a .before .before))) ∙ sym (a .look-update .ensures)
 
 returns : tie.Need-returns
-returns c = let a = c .before .before .before in sym (current-large-update (columnsIn (a .args .columns)) (a .args .row .now) (a .args .update .now) (a .args .k) (c .if1 .taken))
+returns c = let a = c .before .before .before .before in ap refused (c .at-start .ensures) ∙ sym (current-large-update (columnsIn (a .args .columns)) (a .args .row .now) (a .args .update .now) (a .args .k) (c .before .if1 .taken))
 
 returns-2 : tie.Need-returns-2
-returns-2 c = let a = c .before .before .before .before in sym (current-large-row (columnsIn (a .args .columns)) (a .args .row .now) (a .args .update .now) (a .args .k) (update-within (c .before)) (c .if2 .taken))
+returns-2 c = let a = c .before .before .before .before .before in ap refused (c .at-start2 .ensures) ∙ sym (current-large-row (columnsIn (a .args .columns)) (a .args .row .now) (a .args .update .now) (a .args .k) (update-within (c .before .before)) (c .before .if2 .taken))
 
 returns-3 : tie.Need-returns-3
 returns-3 c = let a = c .before .before .before .before .before .before .before .before in sym (current-refused (columnsIn (a .args .columns)) (a .args .row .now) (a .args .update .now) (a .args .k) (told (c .before .before .before) ∙ ap toldUpdate (c .before .e .given .1))) ∙ same (c .before .before .before .before)
@@ -63,6 +63,6 @@ pub current-spec : {M : Type 1} → statement M
 current-spec =
     tie.close
     (tie.spec
-    returns returns-2 (λ c κs. search needs) (λ c. search needs) (λ c. search needs) (λ c. search needs) (λ c. search needs)
+    (λ c κs. search needs) returns (λ c κs. search needs) returns-2 (λ c κs. search needs) (λ c. search needs) (λ c. search needs) (λ c. search needs) (λ c. search needs)
     (λ c κs. search needs) (λ c κs. search needs) (λ c. search needs) (λ c κs. search needs) (λ c κs. search needs) returns-3 returns-4
     returns-5 returns-6 returns-7)

@@ -5,7 +5,7 @@ use mathlib.Core.Path.{_≡_, refl, sym, ap, _∙_}
 use mathlib.Core.List.{List}
 use native.Mathlib.Omega.{arith}
 use lib.ListN.{length}
-use Rattle.wire.specs.Read.{Bytes, ok, bad, limit}
+use Rattle.wire.specs.Read.{Bytes, ok, bad, limit, refused}
 use Rattle.wire.specs.Integers.{toldInt}
 use Rattle.column.specs.declared.column.Column.{Column}
 use Rattle.column.specs.Layout.{columnsFrom, columnsIn}
@@ -19,18 +19,18 @@ use Rattle.update.proofs.updates.look_update.Tie as tie
 
 returns : tie.Need-returns
 returns c =
-    let args = c .before .before .args in
-    sym (look-update-large (columnsIn (args .t1)) (args .update .now) (args .k) (c .if1 .taken))
+    let args = c .before .before .before .args in
+    ap refused (c .at-start .ensures) ∙ sym (look-update-large (columnsIn (args .t1)) (args .update .now) (args .k) (c .before .if1 .taken))
 
 returns-2 : tie.Need-returns-2
 returns-2 c =
-    let args = c .before .before .before .before .args in
-    let if1 = c .before .before .if1 in
-    let lesser = c .before .lesser in
+    let args = c .before .before .before .before .before .args in
+    let if1 = c .before .before .before .if1 in
+    let lesser = c .before .before .lesser in
     let cs : List Column = columnsFrom (lesser .result) 0 (args .t1 .codes) (args .t1 .flags) (args .t1 .maxima) in
     let same : cs ≡ columnsIn (args .t1) = ap (λ (n : ℕ). columnsFrom n 0 (args .t1 .codes) (args .t1 .flags) (args .t1 .maxima)) (lesser .ensures) in
     let l : length cs ≡ lesser .result = length-from (args .t1 .codes) (args .t1 .flags) (args .t1 .maxima) (lesser .result) 0 in
-    sym (look-update-column cs (args .update .now) (args .k) (omega (arith, l, c .if2 .taken))) ∙ ap (λ (cs : List Column). lookUpdate cs (args .update .now) (args .k)) same ∙ sym (look-update-sized (columnsIn (args .t1)) (args .update .now) (args .k) (omega (arith, if1 .left)))
+    ap refused (c .at-start2 .ensures) ∙ sym (look-update-column cs (args .update .now) (args .k) (omega (arith, l, c .before .if2 .taken))) ∙ ap (λ (cs : List Column). lookUpdate cs (args .update .now) (args .k)) same ∙ sym (look-update-sized (columnsIn (args .t1)) (args .update .now) (args .k) (omega (arith, if1 .left)))
 
 update-at-requires : tie.Need-update-at-requires
 update-at-requires c κs =
@@ -64,5 +64,5 @@ pub look-update-spec : {M : Type 1} → statement M
 look-update-spec =
     tie.close
     (tie.spec
-    returns (λ c κs. search needs) returns-2 (λ c κs. search needs) (λ c. search needs) (λ c κs. search needs) (λ c. search needs)
+    (λ c κs. search needs) returns (λ c κs. search needs) (λ c κs. search needs) returns-2 (λ c κs. search needs) (λ c. search needs) (λ c κs. search needs) (λ c. search needs)
     update-at-requires returns-3 returns-4)

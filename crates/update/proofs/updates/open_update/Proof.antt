@@ -14,6 +14,7 @@ use Rattle.walk.specs.Updates.{numbered, updateBytes, chapterMarked, forceBroke
 use Rattle.walk.proofs.Laws.{map-few}
 use Rattle.walk.proofs.UpdateLaws.{update-short, update-chapter, force-chapter, force-rule, update-well}
 use Rattle.walk.proofs.Arrays.{update-bytes}
+use Rattle.wire.proofs.Laws.{told-short}
 use borrow.Author.Needs.{needs}
 use Rattle.update.proofs.updates.open_update.Statement.{statement}
 use Rattle.update.proofs.updates.open_update.Tie as tie
@@ -61,9 +62,9 @@ mul-lacks c = omega (arith, c .map-bytes .ensures, map-few (c .before .before .a
 
 returns : tie.Need-returns
 returns c =
-    let a = c .before .before .before .before in
-    let h = ltb-true (length (a .args .row .now)) (a .args .at + 2 * c .before .before .map-bytes .result) (sym (c .before .lacks .ensures) ∙ c .if1 .taken) in
-    sym (update-short (cs a) (a .args .row .now) (a .args .at) (omega (arith, h, sized (c .before .before))))
+    let a = c .before .before .before .before .before in
+    let h = ltb-true (length (a .args .row .now)) (a .args .at + 2 * c .before .before .before .map-bytes .result) (sym (c .before .before .lacks .ensures) ∙ c .before .if1 .taken) in
+    told-short (c .short .ensures) ∙ sym (update-short (cs a) (a .args .row .now) (a .args .at) (omega (arith, h, sized (c .before .before .before))))
 
 add-force : tie.Need-add-force
 add-force c = let h = whole c in search needs
@@ -108,6 +109,6 @@ pub open-update-spec : {M : Type 1} → statement M
 open-update-spec =
     tie.close
     (tie.spec
-    (λ c κs. search needs) mul-lacks (λ c κs. search needs) returns add-force add-start check-chapters-requires (λ c. search needs)
+    (λ c κs. search needs) mul-lacks (λ c κs. search needs) (λ c κs. search needs) returns add-force add-start check-chapters-requires (λ c. search needs)
     (λ c. search needs) check-chapters-requires-2 (λ c. search needs) (λ c. search needs) check-force-requires (λ c. search needs)
     (λ c. search needs) returns-2 returns-3 returns-4 returns-5)

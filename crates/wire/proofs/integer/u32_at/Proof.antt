@@ -1,54 +1,27 @@
--- The bytes that are read are those of the definition, one by one.
+-- The bytes are there or not.
 -- Assumes nothing.
-use Prim.Native.Nat.{_+_, _≤_}
-use mathlib.Core.Path.{sym, _∙_}
-use native.Mathlib.Omega.{arith}
-use lib.ListN.{length}
+use mathlib.Core.Path.{sym, ap, _∙_}
+use Rattle.wire.specs.Read.{ok}
+use Rattle.wire.proofs.Laws.{told-short, lacked-lt, enough-le, int-short, int-fits}
 use borrow.Author.Needs.{needs}
-use borrow.Author.Tests.{ltb-true, ltb-false}
-use Rattle.wire.proofs.Laws.{int-short, int-four}
 use Rattle.wire.proofs.integer.u32_at.Statement.{statement}
 use Rattle.wire.proofs.integer.u32_at.Tie as tie
 
--- the bytes are there
-fits : (c : tie.Else1) → c .before .before .before .args .at + 4 ≤ length (c .before .before .before .args .s .now)
-fits c = ltb-false _ _ (sym (c .before .lacks .ensures) ∙ c .if1 .left)
-
 returns : tie.Need-returns
 returns c =
-    let a = c .before .before .before .args in
-    sym (int-short (a .s .now) (a .at) 4 (ltb-true _ _ (sym (c .before .lacks .ensures) ∙ c .if1 .taken)))
+    let args = c .before .before .before .before .args in
+    let lacks = c .before .before .lacks in
+    told-short (c .short .ensures) ∙ sym (int-short (args .s .now) (args .at) 4 (lacked-lt _ _ (lacks .ensures) (c .before .if1 .taken)))
+
+four-requires : tie.Need-four-requires
+four-requires c κs = enough-le _ _ (c .before .lacks .ensures) (c .if1 .left)
 
 returns-2 : tie.Need-returns-2
 returns-2 c =
-    let a = c .before .before .before .before .before .before .before .before .before .before .before .args in
-    int-four (a .s .now) (a .at) _ _ _ _ (fits (c .before .before .before .before .before .before .before .before))
-    (c .before .before .before .before .before .before .wide .ensures .0)
-    (c .before .before .before .before .wide2 .ensures .0)
-    (c .before .before .wide3 .ensures .0)
-    (c .wide4 .ensures .0)
+    let args = c .before .before .before .before .args in
+    let lacks = c .before .before .lacks in
+    ap ok (c .four .ensures) ∙ sym (int-fits (args .s .now) (args .at) 4 (enough-le _ _ (lacks .ensures) (c .before .if1 .left)))
 
 pub u32-at-spec : {M : Type 1} → statement M
-u32-at-spec =
-    tie.close
-    (tie.spec
-    (λ c κs. search needs)
-    returns
-    (λ c. omega (arith, fits (c .before)))
-    (λ c κs. search needs)
-    (λ c. omega (arith, fits (c .before .before)))
-    (λ c. omega (arith, fits (c .before .before .before)))
-    (λ c κs. search needs)
-    (λ c. omega (arith, fits (c .before .before .before .before)))
-    (λ c. omega (arith, fits (c .before .before .before .before .before)))
-    (λ c κs. search needs)
-    (λ c. omega (arith, fits (c .before .before .before .before .before .before)))
-    (λ c. omega (arith, fits (c .before .before .before .before .before .before .before)))
-    (λ c κs. search needs)
-    (λ c. search needs)
-    (λ c. search needs)
-    (λ c. search needs)
-    (λ c. search needs)
-    (λ c. search needs)
-    (λ c. search needs)
-    returns-2)
+u32-at-spec = tie.close (tie.spec
+    (λ c κs. search needs) (λ c κs. search needs) returns four-requires returns-2)
