@@ -140,13 +140,13 @@ fn patient_at(file: &[u8], at: usize) -> Usual
         } => Usual::Unusual,
         HeadRead::Field {
             code,
-            flags,
             maximum,
+            flags,
             end,
         } => Usual::Column {
             slot: pack(Column {
                 code: code as u8,
-                flags: flags as u8,
+                flags,
                 maximum: maximum as u16,
             }) as u64,
             end,

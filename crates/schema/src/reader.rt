@@ -148,11 +148,11 @@ fn read_column(
         HeadRead::Refused(e) => PlaceRead::Refused(e),
         HeadRead::Field {
             code,
-            flags,
             maximum,
+            flags,
             end,
         } => {
-            table[slot] = packed(code, flags, maximum, 0);
+            table[slot] = packed(code, flags as usize, maximum, 0);
             PlaceRead::Read(Place {
                 at: end,
                 columns,

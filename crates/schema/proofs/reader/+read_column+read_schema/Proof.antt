@@ -67,7 +67,7 @@ read-column-packed-requires : (t : ℕ) → read-column-lts.Need-packed-requires
 ) (read-column-at t) read-column.Post
 read-column-packed-requires t c κs =
     let b : Bytes = c .before .before .before .before .before .args .file .now in
-    let h : headAt b (c .before .before .before .before .before .args .place .at) ≡ ok (fieldHead (c .before .code .given .0 .0) (c .before .code .given .0 .1 .0) (c .before .code .given .0 .1 .1 .0) (c .before .code .given .0 .1 .1 .1 .0)) = sym (c .before .before .before .head-at .ensures) ∙ ap toldHead (c .before .code .given .1) in
+    let h : headAt b (c .before .before .before .before .before .args .place .at) ≡ ok (fieldHead (c .before .code .given .0 .0) (c .before .code .given .0 .1 .1 .0) (c .before .code .given .0 .1 .0) (c .before .code .given .0 .1 .1 .1 .0)) = sym (c .before .before .before .head-at .ensures) ∙ ap toldHead (c .before .code .given .1) in
     let s = head-small b (c .before .before .before .before .before .args .place .at) h (λ i. c .before .before .before .before .shared-slice-known .given i .fits) in
     (s .0, omega (arith, s .1), omega (arith, s .2), omega arith)
 
@@ -167,7 +167,7 @@ read-column-returns-3 t c =
     let a = c .before .before .before .before .before .before .args in
     let b : Bytes = a .file .now in
     let end : ℕ = c .before .before .code .given .0 .1 .1 .1 .0 in
-    let h : headAt b (a .place .at) ≡ ok (fieldHead (c .before .before .code .given .0 .0) (c .before .before .code .given .0 .1 .0) (c .before .before .code .given .0 .1 .1 .0) end) = sym (c .before .before .before .before .head-at .ensures) ∙ ap toldHead (c .before .before .code .given .1) in
+    let h : headAt b (a .place .at) ≡ ok (fieldHead (c .before .before .code .given .0 .0) (c .before .before .code .given .0 .1 .1 .0) (c .before .before .code .given .0 .1 .0) end) = sym (c .before .before .before .before .head-at .ensures) ∙ ap toldHead (c .before .before .code .given .1) in
     let n = head-inside b (a .place .at) h in
     record {
       answers =
@@ -455,6 +455,7 @@ pub +read-column+read-schema-spec : {M : Type 1} → statement M
     (read-column-at t)
     read-column.Post
     (λ c κs. search needs)
+    (λ c. search needs)
     (λ c. search needs)
     (λ c. search needs)
     (read-column-packed-requires t)
