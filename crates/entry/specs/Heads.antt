@@ -56,6 +56,6 @@ toldNumber (number.Number value end) = ok (found value end)
 toldNumber (number.Refused e) = refused e
 
 abbrev pub toldHead : HeadRead → Read Head
-toldHead (head.Field code flags maximum end) = ok (fieldHead code flags maximum end)
+toldHead (head.Field code maximum flags end) = ok (fieldHead code flags maximum end)
 toldHead (head.Chapter flags id idAt end) = ok (idHead flags id idAt end)
 toldHead (head.Refused e) = refused e

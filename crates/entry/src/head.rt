@@ -12,12 +12,13 @@ use wire::error::Error;
 use wire::error::ErrorKind;
 use wire::error::Input;
 
-// The numbers of a column that was read. Of a chapter: where its id stands, which may be one seen before.
+// The numbers of a column that was read. Of a chapter: where its id stands, which may be one seen before. The flags of a field stand where an
+// error has its input, and are as small: else that number is stored in pieces, and whoever loads it whole must wait.
 pub enum HeadRead {
     Field {
         code: usize,
-        flags: usize,
         maximum: usize,
+        flags: u8,
         end: usize,
     },
     Chapter {
@@ -37,8 +38,8 @@ fn fixed_head(file: &[u8], code: usize, at: usize) -> HeadRead
         NumberRead::Refused(e) => HeadRead::Refused(e),
         NumberRead::Number { value, end } => HeadRead::Field {
             code,
-            flags: value,
             maximum: 0,
+            flags: value as u8,
             end,
         },
     }
@@ -60,8 +61,8 @@ fn variable_head(file: &[u8], code: usize, at: usize) -> HeadRead
                 end,
             } => HeadRead::Field {
                 code,
-                flags,
                 maximum,
+                flags: flags as u8,
                 end,
             },
         },

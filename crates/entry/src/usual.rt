@@ -3,7 +3,7 @@
 ghost use Prim.Native.Nat.{_+_, _≤_};
 ghost use lib.ListN.{length};
 ghost use Rattle.entry.specs.Heads.{fixedHead, variableHead, headAt};
-ghost use Rattle.entry.specs.Usual.{Says, SaysBehind};
+ghost use Rattle.entry.specs.Usual.{Says, Behind, SaysBehind};
 use crate::head::HeadRead;
 use crate::head::head_at;
 use column::column::Column;
@@ -95,8 +95,22 @@ fn usual_by(file: &[u8], code: u8, at: usize) -> Usual
     }
 }
 
+// Where the type code that stands at `at` ends; 0 where it is not in the shortest form.
+fn behind_code(file: &[u8], at: usize) -> usize
+    requires { ⌜ at + 2 ≤ length (now file) ⌝ }
+    ensures { λ r. ⌜ Behind (now (file .entry)) at r ⌝ }
+{
+    if file[at] < 128 {
+        return at + 1;
+    }
+    if file[at + 1] != 1 {
+        return 0;
+    }
+    at + 2
+}
+
 // The column whose type code stands at `at`.
-pub fn usual_at(file: &[u8], at: usize) -> Usual
+fn usual_at(file: &[u8], at: usize) -> Usual
     ensures { λ r. ⌜ Says (headAt (now (file .entry)) at) r ⌝ }
 {
     if file.len() < MOST_BYTES {
@@ -105,14 +119,11 @@ pub fn usual_at(file: &[u8], at: usize) -> Usual
     if file.len() - MOST_BYTES < at {
         return Usual::Unusual;
     }
-    let code = file[at];
-    if code < 128 {
-        return usual_by(file, code, at + 1);
-    }
-    if file[at + 1] != 1 {
+    let behind = behind_code(file, at);
+    if behind == 0 {
         return Usual::Unusual;
     }
-    usual_by(file, code, at + 2)
+    usual_by(file, file[at], behind)
 }
 
 // The column whose type code stands at `at`, in whatever form. Of a chapter it tells nothing.
@@ -129,13 +140,13 @@ fn patient_at(file: &[u8], at: usize) -> Usual
         } => Usual::Unusual,
         HeadRead::Field {
             code,
-            flags,
             maximum,
+            flags,
             end,
         } => Usual::Column {
             slot: pack(Column {
                 code: code as u8,
-                flags: flags as u8,
+                flags,
                 maximum: maximum as u16,
             }) as u64,
             end,

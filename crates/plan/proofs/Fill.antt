@@ -45,13 +45,13 @@ pub record Filling (cs : List Column) (numbers : List ℕ) (gap bit stops first 
   pub first-few : first ≤ 64
 
 -- none is
-pub fill-start : (cs : List Column) {map : ℕ} → length cs ≤ 64 → map ≡ presenceBytes cs → Filling cs (replicate 131 0) map 0 0 0 0 0
+pub fill-start : (cs : List Column) {map : ℕ} {numbers : List ℕ} → length cs ≤ 64 → map ≡ presenceBytes cs → numbers ≡ replicate 131 0 → Filling cs numbers map 0 0 0 0 0
 unfolding laid padded
-fill-start cs h e =
+fill-start cs h e z =
     record {
       columns = [];
       words = [];
-      held = refl;
+      held = z;
       written = refl;
       listed = refl;
       columns-left = rw e;

@@ -3,7 +3,7 @@ ghost use Rattle.wire.specs.Read.{toldMatch};
 ghost use Prim.Native.Nat.{min};
 ghost use Rattle.column.specs.Packed.{packedFrom};
 ghost use Rattle.plan.specs.Compare.{Compared, Tells};
-use crate::make::make;
+use crate::make::make_into;
 use crate::plan::Plan;
 use wire::bytes::Matched;
 use wire::error::Error;
@@ -27,8 +27,9 @@ fn same<'a>(a: &'a [usize; 131], b: &'a [usize; 131]) -> bool
 pub fn check(plan: Plan, slots: &[u32; 64], count: usize) -> Matched
     ensures { λ r. ⌜ Compared plan (packedFrom (min count 64) 0 (now (slots .entry))) (toldMatch r) ⌝ }
 {
-    let made = make(slots, count);
-    if same(&plan.numbers, &made.numbers) {
+    let mut made = [0usize; 131];
+    make_into(slots, count, &mut made);
+    if same(&plan.numbers, &made) {
         return Matched::Same;
     }
     Matched::Refused(Error {

@@ -2,12 +2,13 @@
 ghost use mathlib.Core.Path.{_≡_};
 ghost use Prim.Native.Nat.{_-_, _^_, _≤_, _<_, min};
 ghost use lib.Dec.{eqb};
+ghost use lib.ListN.{replicate};
 ghost use Rattle.wire.specs.Read.{pick};
 ghost use Rattle.column.specs.Columns.{width, isChapter};
 ghost use Rattle.column.specs.Packed.{packedAt, packedFrom};
 ghost use Rattle.walk.specs.Presence.{presenceBytes};
 ghost use Rattle.plan.specs.Packed.{packed};
-ghost use Rattle.plan.specs.Plans.{planOf};
+ghost use Rattle.plan.specs.Plans.{planOf, lent};
 use crate::parts::BEFORE;
 use crate::parts::BIT;
 use crate::parts::CHAPTERS;
@@ -23,7 +24,7 @@ use column::packed::pack;
 use column::packed::unpack_slot;
 use row::rows::one;
 use row::rows::presence_bytes;
-use stops::stop::stop_word;
+use stops::stop::stop_sized;
 use wire::lesser;
 
 // Column `i` of a schema's slots.
@@ -68,12 +69,11 @@ fn chapter_bit(nullable: bool, bit: usize) -> usize
     }
 }
 
-// The plan of the columns in the first `n` slots, whose presence map has so many bytes.
-fn plan_of(slots: &[u32; 64], n: usize, map: usize) -> Plan
-    requires { ⌜ (n ≤ 64) × (map ≡ presenceBytes (packedFrom n 0 (now slots))) ⌝ }
-    ensures { λ r. ⌜ r ≡ planOf (packedFrom n 0 (now (slots .entry))) ⌝ }
+// The numbers of the plan of the columns in the first `n` slots, whose presence map has so many bytes, into an array of zeros.
+fn fill(slots: &[u32; 64], n: usize, map: usize, numbers: &mut [usize; 131])
+    requires { ⌜ (n ≤ 64) × (map ≡ presenceBytes (packedFrom n 0 (now slots))) × (now numbers ≡ replicate 131 0) ⌝ }
+    ensures { λ r. ⌜ lent (now (numbers .exit)) ≡ planOf (packedFrom n 0 (now (slots .entry))) ⌝ }
 {
-    let mut numbers = [0usize; 131];
     let mut gap = map;
     let mut bit = 0;
     let mut stops = 0;
@@ -86,7 +86,7 @@ fn plan_of(slots: &[u32; 64], n: usize, map: usize) -> Plan
         let size = column.width();
         numbers[i] = number_of(column, size, gap, bit, stops);
         if column.is_stop() {
-            numbers[STOPS + stops] = stop_word(column, nullable, gap, bit);
+            numbers[STOPS + stops] = stop_sized(column, size, nullable, gap, bit);
             first = first_of(stops, i, first);
             stops += 1;
             gap = 0;
@@ -102,13 +102,22 @@ fn plan_of(slots: &[u32; 64], n: usize, map: usize) -> Plan
     numbers[COUNTS] = n + FIRST * first;
     numbers[MAP] = map;
     numbers[CHAPTERS] = mask;
-    Plan { numbers }
+}
+
+// The numbers of the plan of the columns in the first `count` slots, into an array of zeros: what is lent is not copied.
+pub(crate) fn make_into(slots: &[u32; 64], count: usize, numbers: &mut [usize; 131])
+    requires { ⌜ now numbers ≡ replicate 131 0 ⌝ }
+    ensures { λ r. ⌜ lent (now (numbers .exit)) ≡ planOf (packedFrom (min count 64) 0 (now (slots .entry))) ⌝ }
+{
+    let map = presence_bytes(slots, count);
+    fill(slots, lesser(count, 64), map, numbers);
 }
 
 // The plan of the columns in the first `count` slots.
 pub fn make(slots: &[u32; 64], count: usize) -> Plan
     ensures { λ r. ⌜ r ≡ planOf (packedFrom (min count 64) 0 (now (slots .entry))) ⌝ }
 {
-    let map = presence_bytes(slots, count);
-    plan_of(slots, lesser(count, 64), map)
+    let mut numbers = [0usize; 131];
+    make_into(slots, count, &mut numbers);
+    Plan { numbers }
 }

@@ -9,7 +9,7 @@ ghost use Rattle.tree.specs.Filling.{fillColumn, fillSchema, fillFile};
 ghost use Rattle.schema.specs.Told.{placed, toldPlace, Ready, Told, Tabled};
 use crate::MOST_DEPTH;
 use crate::MOST_FILE_COLUMNS;
-use crate::runs::read_usual;
+use crate::runs::read_columns;
 use column::columns::MOST_COLUMNS;
 use column::types::ColumnType;
 use entry::head::HeadRead;
@@ -110,7 +110,7 @@ fn read_schema(
             };
             let mut i = 0;
             while i < count {
-                let run = read_usual(file, here.at, start + i, count - i, table);
+                let run = read_columns(file, here.at, start + i, count - i, table);
                 here.at = run.at;
                 i += run.count;
                 if i < count {
@@ -148,11 +148,11 @@ fn read_column(
         HeadRead::Refused(e) => PlaceRead::Refused(e),
         HeadRead::Field {
             code,
-            flags,
             maximum,
+            flags,
             end,
         } => {
-            table[slot] = packed(code, flags, maximum, 0);
+            table[slot] = packed(code, flags as usize, maximum, 0);
             PlaceRead::Read(Place {
                 at: end,
                 columns,

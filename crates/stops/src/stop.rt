@@ -43,14 +43,14 @@ fn place_of(free: bool, bit: usize) -> usize
     if free { 63 - bit % 64 } else { 0 }
 }
 
-// The bytes of the prefix, or of the whole field where it has none.
-fn size_of(column: Column) -> usize
-    ensures { λ r. ⌜ (r ≡ pick (isVariable column) (prefixSize column) (width column)) × (r < 32) ⌝ }
+// The bytes of the prefix, or of the whole field where it has none; `size` is the column's width.
+fn size_of(column: Column, size: usize) -> usize
+    ensures { λ r. ⌜ (size ≡ width column → r ≡ pick (isVariable column) (prefixSize column) (width column)) × (r < 32) ⌝ }
 {
     if column.is_variable() {
         column.prefix_size()
     } else {
-        column.width()
+        size % 32
     }
 }
 
@@ -64,15 +64,22 @@ fn flags_of(column: Column, free: bool) -> usize
         + FREE * flag(free)
 }
 
-// The number of the stop of a column: the gap before it, its bit in the map, and whether that bit decides on its field.
-pub fn stop_word(column: Column, free: bool, gap: usize, bit: usize) -> usize
-    ensures { λ r. ⌜ r ≡ stopWord (stopOf free column (gap % 65536) (bit % 64)) ⌝ }
+// The number of the stop of a column of width `size`: the gap before it, its bit in the map, and whether that bit decides on its field.
+pub fn stop_sized(column: Column, size: usize, free: bool, gap: usize, bit: usize) -> usize
+    ensures { λ r. ⌜ (size ≡ width column → r ≡ stopWord (stopOf free column (gap % 65536) (bit % 64))) ⌝ }
 {
     gap % GAPS
         + BIT * place_of(free, bit)
         + flags_of(column, free)
-        + SIZE * size_of(column)
+        + SIZE * size_of(column, size)
         + MOST * column.greatest()
+}
+
+// The same of a column whose width is not at hand.
+pub fn stop_word(column: Column, free: bool, gap: usize, bit: usize) -> usize
+    ensures { λ r. ⌜ r ≡ stopWord (stopOf free column (gap % 65536) (bit % 64)) ⌝ }
+{
+    stop_sized(column, column.width(), free, gap, bit)
 }
 
 // The bytes from the end of the last stop up to this one.

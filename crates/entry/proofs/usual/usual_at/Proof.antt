@@ -1,24 +1,36 @@
--- A code of one byte, or of two.
+-- The column behind its code.
 -- Assumes nothing.
 use native.Mathlib.Omega.{arith}
-use Rattle.entry.proofs.UsualForms.{head-one, head-two}
 use borrow.Author.Needs.{needs}
 use Rattle.entry.proofs.usual.usual_at.Statement.{statement}
 use Rattle.entry.proofs.usual.usual_at.Tie as tie
 
-returns-3 : tie.Need-returns-3
-returns-3 c =
-    let a = c .before .before .before .before .before .before .args in
-    rw (head-one (a .file .now) (a .at) (omega (arith, c .before .before .before .before .if1 .left, c .before .before .before .if2 .left)) (c .before .if3 .taken)) (c .usual-by .ensures (a .at))
+behind-code-requires : tie.Need-behind-code-requires
+behind-code-requires c κs = omega (arith, c .before .if1 .left, c .if2 .left)
 
-returns-5 : tie.Need-returns-5
-returns-5 c =
-    let a = c .before .before .before .before .before .before .before .before .args in
-    rw (head-two (a .file .now) (a .at) (omega (arith, c .before .before .before .before .before .before .if1 .left, c .before .before .before .before .before .if2 .left)) (c .before .before .before .if3 .left) (c .before .if4 .left)) (c .usual-by2 .ensures (a .at))
+shared-slice-read-usual-by : tie.Need-shared-slice-read-usual-by
+shared-slice-read-usual-by c =
+    let if1 = c .before .before .before .before .if1 in
+    let if2 = c .before .before .before .if2 in
+    omega (arith, if1 .left, if2 .left)
+
+usual-by-requires : tie.Need-usual-by-requires
+usual-by-requires c κs =
+    let if1 = c .before .before .before .before .if1 in
+    let if2 = c .before .before .before .if2 in
+    let behind-code = c .before .before .behind-code in
+    let b = behind-code .ensures (omega (arith, c .before .if3 .left)) in omega (arith, b .0, if1 .left, if2 .left)
+
+returns-4 : tie.Need-returns-4
+returns-4 c =
+    let args = c .before .before .before .before .before .before .before .args in
+    let behind-code = c .before .before .before .behind-code in
+    let if3 = c .before .before .if3 in
+    let b = behind-code .ensures (omega (arith, if3 .left)) in rw (b .1) (c .usual-by .ensures (args .at))
 
 pub usual-at-spec : {M : Type 1} → statement M
 usual-at-spec =
     tie.close
     (tie.spec
-    (λ c. search needs) (λ c. search needs) (λ c. search needs) (λ c. search needs) (λ c. search needs) (λ c κs. search needs) returns-3
-    (λ c. search needs) (λ c. search needs) (λ c. search needs) (λ c. search needs) (λ c κs. search needs) returns-5)
+    (λ c. search needs) (λ c. search needs) (λ c. search needs) behind-code-requires (λ c. search needs) shared-slice-read-usual-by
+    usual-by-requires returns-4)

@@ -29,7 +29,7 @@ use Rattle.entry.proofs.number.range_at.Reads as range-at-reads
 use Rattle.schema.proofs.reader.block.Reads as block-reads
 use Rattle.schema.proofs.reader.is_seen.Reads as is-seen-reads
 use Rattle.schema.proofs.reader.packed.Reads as packed-reads
-use Rattle.schema.proofs.runs.read_usual.Reads as read-usual-reads
+use Rattle.schema.proofs.runs.read_columns.Reads as read-columns-reads
 use Rattle.schema.proofs.reader.+read_column+read_schema.{statement}
 use Rattle.schema.proofs.reader.+read_column+read_schema.Tie.{close}
 
@@ -67,7 +67,7 @@ read-column-packed-requires : (t : ℕ) → read-column-lts.Need-packed-requires
 ) (read-column-at t) read-column.Post
 read-column-packed-requires t c κs =
     let b : Bytes = c .before .before .before .before .before .args .file .now in
-    let h : headAt b (c .before .before .before .before .before .args .place .at) ≡ ok (fieldHead (c .before .code .given .0 .0) (c .before .code .given .0 .1 .0) (c .before .code .given .0 .1 .1 .0) (c .before .code .given .0 .1 .1 .1 .0)) = sym (c .before .before .before .head-at .ensures) ∙ ap toldHead (c .before .code .given .1) in
+    let h : headAt b (c .before .before .before .before .before .args .place .at) ≡ ok (fieldHead (c .before .code .given .0 .0) (c .before .code .given .0 .1 .1 .0) (c .before .code .given .0 .1 .0) (c .before .code .given .0 .1 .1 .1 .0)) = sym (c .before .before .before .head-at .ensures) ∙ ap toldHead (c .before .code .given .1) in
     let s = head-small b (c .before .before .before .before .before .args .place .at) h (λ i. c .before .before .before .before .shared-slice-known .given i .fits) in
     (s .0, omega (arith, s .1), omega (arith, s .2), omega arith)
 
@@ -167,7 +167,7 @@ read-column-returns-3 t c =
     let a = c .before .before .before .before .before .before .args in
     let b : Bytes = a .file .now in
     let end : ℕ = c .before .before .code .given .0 .1 .1 .1 .0 in
-    let h : headAt b (a .place .at) ≡ ok (fieldHead (c .before .before .code .given .0 .0) (c .before .before .code .given .0 .1 .0) (c .before .before .code .given .0 .1 .1 .0) end) = sym (c .before .before .before .before .head-at .ensures) ∙ ap toldHead (c .before .before .code .given .1) in
+    let h : headAt b (a .place .at) ≡ ok (fieldHead (c .before .before .code .given .0 .0) (c .before .before .code .given .0 .1 .1 .0) (c .before .before .code .given .0 .1 .0) end) = sym (c .before .before .before .before .head-at .ensures) ∙ ap toldHead (c .before .before .code .given .1) in
     let n = head-inside b (a .place .at) h in
     record {
       answers =
@@ -214,8 +214,8 @@ read-schema-returns : (t : ℕ) → read-schema-lts.Need-returns (
   range-at-reads.Learnt,
   block-reads.Asked,
   block-reads.Learnt,
-  read-usual-reads.Asked,
-  read-usual-reads.Learnt,
+  read-columns-reads.Asked,
+  read-columns-reads.Learnt,
   read-column-below t,
   read-column.Post,
 ) (read-schema-at t) read-schema.Post read-schema-Inv-loop read-schema-μ-loop
@@ -231,8 +231,8 @@ read-schema-add-if2 : (t : ℕ) → read-schema-lts.Need-add-if2 (
   range-at-reads.Learnt,
   block-reads.Asked,
   block-reads.Learnt,
-  read-usual-reads.Asked,
-  read-usual-reads.Learnt,
+  read-columns-reads.Asked,
+  read-columns-reads.Learnt,
   read-column-below t,
   read-column.Post,
 ) (read-schema-at t) read-schema.Post read-schema-Inv-loop read-schema-μ-loop
@@ -246,8 +246,8 @@ read-schema-returns-2 : (t : ℕ) → read-schema-lts.Need-returns-2 (
   range-at-reads.Learnt,
   block-reads.Asked,
   block-reads.Learnt,
-  read-usual-reads.Asked,
-  read-usual-reads.Learnt,
+  read-columns-reads.Asked,
+  read-columns-reads.Learnt,
   read-column-below t,
   read-column.Post,
 ) (read-schema-at t) read-schema.Post read-schema-Inv-loop read-schema-μ-loop
@@ -265,8 +265,8 @@ read-schema-block-requires : (t : ℕ) → read-schema-lts.Need-block-requires (
   range-at-reads.Learnt,
   block-reads.Asked,
   block-reads.Learnt,
-  read-usual-reads.Asked,
-  read-usual-reads.Learnt,
+  read-columns-reads.Asked,
+  read-columns-reads.Learnt,
   read-column-below t,
   read-column.Post,
 ) (read-schema-at t) read-schema.Post read-schema-Inv-loop read-schema-μ-loop
@@ -280,8 +280,8 @@ read-schema-loop-holds : (t : ℕ) → read-schema-lts.Need-loop-holds (
   range-at-reads.Learnt,
   block-reads.Asked,
   block-reads.Learnt,
-  read-usual-reads.Asked,
-  read-usual-reads.Learnt,
+  read-columns-reads.Asked,
+  read-columns-reads.Learnt,
   read-column-below t,
   read-column.Post,
 ) (read-schema-at t) read-schema.Post read-schema-Inv-loop read-schema-μ-loop
@@ -300,17 +300,17 @@ read-schema-loop-holds t c =
       rw (x, y) refl,
     )
 
-read-schema-read-usual-requires : (t : ℕ) → read-schema-lts.Need-read-usual-requires (
+read-schema-read-columns-requires : (t : ℕ) → read-schema-lts.Need-read-columns-requires (
   range-at-reads.Asked,
   range-at-reads.Learnt,
   block-reads.Asked,
   block-reads.Learnt,
-  read-usual-reads.Asked,
-  read-usual-reads.Learnt,
+  read-columns-reads.Asked,
+  read-columns-reads.Learnt,
   read-column-below t,
   read-column.Post,
 ) (read-schema-at t) read-schema.Post read-schema-Inv-loop read-schema-μ-loop
-read-schema-read-usual-requires t c κs =
+read-schema-read-columns-requires t c κs =
     let l = c .before .before .loop in
     (l .inv .4 .inside, omega (arith, c .before .loop-test .taken, l .inv .2, l .inv .4 .room))
 
@@ -319,14 +319,14 @@ read-schema-read-column-requires : (t : ℕ) → read-schema-lts.Need-read-colum
   range-at-reads.Learnt,
   block-reads.Asked,
   block-reads.Learnt,
-  read-usual-reads.Asked,
-  read-usual-reads.Learnt,
+  read-columns-reads.Asked,
+  read-columns-reads.Learnt,
   read-column-below t,
   read-column.Post,
 ) (read-schema-at t) read-schema.Post read-schema-Inv-loop read-schema-μ-loop
 read-schema-read-column-requires t c κs =
     let l = c .before .before .before .before .before .before .loop in
-    let u = c .before .before .before .read-usual .ensures in (
+    let u = c .before .before .before .read-columns .ensures in (
       omega (arith, c .before .before .before .before .before .before .before .before .before .before .before .before .before .before .before .pre .0, l .inv .3, u .further, u .inside),
       (record { inside = u .inside; room = l .inv .4 .room; fewer = l .inv .4 .fewer }, omega (arith, l .inv .2, c .before .if3 .taken)),
     )
@@ -336,15 +336,15 @@ read-schema-returns-3 : (t : ℕ) → read-schema-lts.Need-returns-3 (
   range-at-reads.Learnt,
   block-reads.Asked,
   block-reads.Learnt,
-  read-usual-reads.Asked,
-  read-usual-reads.Learnt,
+  read-columns-reads.Asked,
+  read-columns-reads.Learnt,
   read-column-below t,
   read-column.Post,
 ) (read-schema-at t) read-schema.Post read-schema-Inv-loop read-schema-μ-loop
 read-schema-returns-3 t c =
     let a = c .before .before .before .before .before .before .before .before .before .before .before .before .before .before .before .before .before .before .before .args in
     let l = c .before .before .before .before .before .before .before .before .before .before .loop in
-    let u = c .before .before .before .before .before .before .before .read-usual in
+    let u = c .before .before .before .before .before .before .before .read-columns in
     let n : ℕ = c .before .before .before .before .before .before .before .before .before .before .before .before .before .before .count .given .0 .0 in
     let exit : List ℕ = u .last .1 .1 .1 .1 .0 in
     record {
@@ -358,15 +358,15 @@ read-schema-loop-again : (t : ℕ) → read-schema-lts.Need-loop-again (
   range-at-reads.Learnt,
   block-reads.Asked,
   block-reads.Learnt,
-  read-usual-reads.Asked,
-  read-usual-reads.Learnt,
+  read-columns-reads.Asked,
+  read-columns-reads.Learnt,
   read-column-below t,
   read-column.Post,
 ) (read-schema-at t) read-schema.Post read-schema-Inv-loop read-schema-μ-loop
 read-schema-loop-again t c =
     let a = c .before .before .before .before .before .before .before .before .before .before .before .before .before .before .before .before .before .before .before .args in
     let l = c .before .before .before .before .before .before .before .before .before .before .loop in
-    let u = c .before .before .before .before .before .before .before .read-usual in
+    let u = c .before .before .before .before .before .before .before .read-columns in
     let n : ℕ = c .before .before .before .before .before .before .before .before .before .before .before .before .before .before .count .given .0 .0 in
     let between : List ℕ = u .last .1 .1 .1 .1 .0 in
     let exit : List ℕ = c .before .before .before .read-column .last .1 .1 .1 .1 .0 in
@@ -386,15 +386,15 @@ read-schema-loop-again-2 : (t : ℕ) → read-schema-lts.Need-loop-again-2 (
   range-at-reads.Learnt,
   block-reads.Asked,
   block-reads.Learnt,
-  read-usual-reads.Asked,
-  read-usual-reads.Learnt,
+  read-columns-reads.Asked,
+  read-columns-reads.Learnt,
   read-column-below t,
   read-column.Post,
 ) (read-schema-at t) read-schema.Post read-schema-Inv-loop read-schema-μ-loop
 read-schema-loop-again-2 t c =
     let a = c .before .before .before .before .before .before .before .before .before .before .before .before .before .before .args in
     let l = c .before .before .before .before .before .loop in
-    let u = c .before .before .read-usual in (
+    let u = c .before .before .read-columns in (
       omega (arith, u .ensures .few, c .before .before .before .before .loop-test .taken),
       l .inv .1,
       l .inv .2,
@@ -409,8 +409,8 @@ read-schema-returns-4 : (t : ℕ) → read-schema-lts.Need-returns-4 (
   range-at-reads.Learnt,
   block-reads.Asked,
   block-reads.Learnt,
-  read-usual-reads.Asked,
-  read-usual-reads.Learnt,
+  read-columns-reads.Asked,
+  read-columns-reads.Learnt,
   read-column-below t,
   read-column.Post,
 ) (read-schema-at t) read-schema.Post read-schema-Inv-loop read-schema-μ-loop
@@ -428,8 +428,8 @@ read-schema-returns-5 : (t : ℕ) → read-schema-lts.Need-returns-5 (
   range-at-reads.Learnt,
   block-reads.Asked,
   block-reads.Learnt,
-  read-usual-reads.Asked,
-  read-usual-reads.Learnt,
+  read-columns-reads.Asked,
+  read-columns-reads.Learnt,
   read-column-below t,
   read-column.Post,
 ) (read-schema-at t) read-schema.Post read-schema-Inv-loop read-schema-μ-loop
@@ -457,6 +457,7 @@ pub +read-column+read-schema-spec : {M : Type 1} → statement M
     (λ c κs. search needs)
     (λ c. search needs)
     (λ c. search needs)
+    (λ c. search needs)
     (read-column-packed-requires t)
     (λ c. omega (arith, c .before .before .before .before .before .before .pre .1 .0 .room, c .before .before .before .before .before .before .pre .1 .1))
     (λ c. omega (arith, c .before .before .before .before .before .before .pre .1 .0 .room, c .before .before .before .before .before .before .pre .1 .1))
@@ -476,8 +477,8 @@ pub +read-column+read-schema-spec : {M : Type 1} → statement M
       range-at-reads.Learnt,
       block-reads.Asked,
       block-reads.Learnt,
-      read-usual-reads.Asked,
-      read-usual-reads.Learnt,
+      read-columns-reads.Asked,
+      read-columns-reads.Learnt,
       read-column-below t,
       read-column.Post,
     )
@@ -503,8 +504,8 @@ pub +read-column+read-schema-spec : {M : Type 1} → statement M
     (read-schema-loop-holds t)
     (λ c. search needs)
     (λ c. search needs)
-    (read-schema-read-usual-requires t)
-    (λ c. omega (arith, c .before .read-usual .ensures .few, c .before .before .before .loop-test .taken, c .before .before .before .before .loop .inv .1))
+    (read-schema-read-columns-requires t)
+    (λ c. omega (arith, c .before .read-columns .ensures .few, c .before .before .before .loop-test .taken, c .before .before .before .before .loop .inv .1))
     (λ c. search needs)
     (λ c. omega (arith, c .if3 .taken, c .before .before .before .before .before .loop .inv .2, c .before .before .before .before .before .loop .inv .4 .room))
     (read-schema-read-column-requires t)

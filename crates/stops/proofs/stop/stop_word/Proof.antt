@@ -1,21 +1,12 @@
--- Part by part.
+-- The width is the column's.
 -- Assumes nothing.
-use native.Mathlib.Omega.{arith}
-use Rattle.column.specs.Stops.{stopFlags, stopOf, stopWord}
 use borrow.Author.Needs.{needs}
 use Rattle.stops.proofs.stop.stop_word.Statement.{statement}
 use Rattle.stops.proofs.stop.stop_word.Tie as tie
 
 returns : tie.Need-returns
-unfolding stopWord stopOf stopFlags
-returns c =
-    let place-of = c .before .before .before .place-of in
-    let flags-of = c .before .before .flags-of in
-    omega (arith, place-of .ensures .0, flags-of .ensures .0, c .before .size-of .ensures .0, c .greatest .ensures .0)
+returns c = c .stop-sized .ensures (c .before .width .ensures)
 
 pub stop-word-spec : {M : Type 1} → statement M
-stop-word-spec =
-    tie.close
-    (tie.spec
-    (λ c κs. search needs) (λ c. search needs) (λ c. search needs) (λ c κs. search needs) (λ c. search needs) (λ c κs. search needs)
-    (λ c. search needs) (λ c. search needs) (λ c κs. search needs) (λ c. search needs) (λ c. search needs) returns)
+stop-word-spec = tie.close (tie.spec
+    (λ c κs. search needs) (λ c κs. search needs) returns)

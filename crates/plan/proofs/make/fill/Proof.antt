@@ -10,8 +10,8 @@ use Rattle.walk.specs.Presence.{one}
 use Rattle.plan.proofs.Made.{one-few}
 use Rattle.plan.proofs.Fill.{Filling, fill-start, fill-stop, mask-room, fill-plain, fill-end}
 use borrow.Author.Needs.{needs}
-use Rattle.plan.proofs.make.plan_of.Statement.{statement}
-use Rattle.plan.proofs.make.plan_of.Tie as tie
+use Rattle.plan.proofs.make.fill.Statement.{statement}
+use Rattle.plan.proofs.make.fill.Tie as tie
 
 abbrev Inv-loop : tie.InvT-loop
 Inv-loop slots n map numbers₀ gap₀ bit₀ stops₀ first₀ mask₀ i₀ numbers gap bit stops first mask i = Filling (packedFrom n 0 slots) numbers gap bit stops first mask i
@@ -23,7 +23,7 @@ loop-holds : tie.Need-loop-holds Inv-loop μ-loop
 loop-holds c =
     let args = c .args in
     let pre = c .pre in
-    fill-start (packedFrom (args .n) 0 (args .slots .now)) (omega (arith, (length-from (args .slots .now) (args .n) 0), pre .0)) (pre .1)
+    fill-start (packedFrom (args .n) 0 (args .slots .now)) (omega (arith, (length-from (args .slots .now) (args .n) 0), pre .0)) (pre .1) (pre .2)
 
 number-of-requires : tie.Need-number-of-requires Inv-loop μ-loop
 number-of-requires c κs =
@@ -50,12 +50,13 @@ loop-again c =
     let loop-test = c .before .before .before .before .before .before .before .before .before .loop-test in
     let column-of = c .before .before .before .before .before .before .before .before .column-of in
     let is-nullable = c .before .before .before .before .before .before .before .is-nullable in
+    let width = c .before .before .before .before .before .before .width in
     let number-of = c .before .before .before .before .before .number-of in
     let is-stop = c .before .before .before .before .is-stop in
     let if1 = c .before .before .before .if1 in
-    let stop-word = c .before .before .stop-word in
+    let stop-sized = c .before .before .stop-sized in
     let the-one = c .one in
-    fill-stop (args .slots .now) (args .n) (pre .0) (loop .inv) (loop-test .taken) (column-of .result) (column-of .ensures) (number-of .result) (number-of .ensures) (is-nullable .result) (is-nullable .ensures) (the-one .result) (the-one .ensures) (is-stop .ensures) (if1 .taken) (stop-word .result) (stop-word .ensures) (c .before .first-of .ensures)
+    fill-stop (args .slots .now) (args .n) (pre .0) (loop .inv) (loop-test .taken) (column-of .result) (column-of .ensures) (number-of .result) (number-of .ensures) (is-nullable .result) (is-nullable .ensures) (the-one .result) (the-one .ensures) (is-stop .ensures) (if1 .taken) (stop-sized .result) (stop-sized .ensures (width .ensures)) (c .before .first-of .ensures)
 
 add-mask : tie.Need-add-mask Inv-loop μ-loop
 add-mask c =
@@ -108,8 +109,8 @@ returns c =
     let loop = c .before .loop in
     fill-end (packedFrom (args .n) 0 (args .slots .now)) (loop .inv) (omega (arith, (length-from (args .slots .now) (args .n) 0), c .loop-test .left)) (sym (length-from (args .slots .now) (args .n) 0)) (pre .1)
 
-pub plan-of-spec : {M : Type 1} → statement M
-plan-of-spec =
+pub fill-spec : {M : Type 1} → statement M
+fill-spec =
     tie.close
     (tie.spec
     Inv-loop μ-loop loop-holds (λ c κs. search needs) (λ c κs. search needs) (λ c κs. search needs) number-of-requires (λ c. search needs)
