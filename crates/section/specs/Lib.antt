@@ -2,5 +2,6 @@ pub mod Table
 -- Inner.
 pub mod Ends
 pub mod Heads
+pub mod Runs
 pub mod Sizes
 pub mod Scan

@@ -3,7 +3,9 @@
 
 mod children;
 mod ends;
+mod fill;
 mod heads;
 mod notes;
 pub mod read;
+mod runs;
 mod table;
