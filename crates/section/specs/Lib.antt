@@ -3,5 +3,6 @@ pub mod Table
 pub mod Ends
 pub mod Heads
 pub mod Runs
+pub mod Said
 pub mod Sizes
 pub mod Scan

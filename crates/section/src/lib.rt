@@ -8,4 +8,5 @@ mod heads;
 mod notes;
 pub mod read;
 mod runs;
+mod said;
 mod table;

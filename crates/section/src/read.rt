@@ -10,7 +10,6 @@ ghost use Rattle.section.specs.Table.{rowsFitting, rowsRead, Listed};
 ghost use Rattle.section.specs.Sizes.{Blank};
 ghost use Rattle.section.specs.Scan.{Ready, Scanned};
 ghost use Rattle.section.specs.declared.read.RowsRead.the-variants as read;
-use crate::ends::quick_end;
 use crate::ends::turn;
 use crate::ends::turns_of;
 use crate::fill::fill;
@@ -19,6 +18,7 @@ use crate::heads::head_at;
 use crate::notes::is_stepped;
 use crate::notes::note;
 use crate::runs::run;
+use crate::said::element_said;
 use quick::ends::row_step;
 use schema::reader::PlaceRead;
 use schema::reader::read_file;
@@ -62,48 +62,61 @@ fn scan(
     let answer = 'section: loop {
         let n = run(section, at, step);
         if n == 0 {
-            match head_at(slots, schemas, section, at, child, last) {
-                Head::Refused(e) => {
-                    break 'section RowsRead::Refused(e);
-                }
-                Head::Done => {
-                    break 'section RowsRead::Rows(rows);
-                }
-                Head::Delete(id) => {
-                    used = note(sizes, used, 5, false);
-                    at += 5;
-                    child = 0;
-                }
-                Head::Data {
-                    kind,
-                    number,
-                    id,
-                    start,
-                } => {
-                    let update = kind == 3;
-                    let mut end = quick_end(shapes, number, update, section, start);
-                    let turns = turns_of(slots, number, end);
-                    let mut i = 0;
-                    while i < turns {
-                        match turn(slots, number, update, section, start, i, end) {
-                            IntRead::Refused(e) => {
-                                break 'section RowsRead::Refused(e);
-                            }
-                            IntRead::Int(p) => {
-                                end = p;
-                                i += 1;
+            let said = element_said(slots, shapes, schemas, section, at, child, last);
+            if said.end == 0 {
+                match head_at(slots, schemas, section, at, child, last) {
+                    Head::Refused(e) => {
+                        break 'section RowsRead::Refused(e);
+                    }
+                    Head::Done => {
+                        break 'section RowsRead::Rows(rows);
+                    }
+                    Head::Delete(id) => {
+                        used = note(sizes, used, 5, false);
+                        at += 5;
+                        child = 0;
+                    }
+                    Head::Data {
+                        kind,
+                        number,
+                        id,
+                        start,
+                    } => {
+                        let update = kind == 3;
+                        let turns = turns_of(slots, number, 0);
+                        let mut end = 0;
+                        let mut i = 0;
+                        while i < turns {
+                            match turn(slots, number, update, section, start, i, end) {
+                                IntRead::Refused(e) => {
+                                    break 'section RowsRead::Refused(e);
+                                }
+                                IntRead::Int(p) => {
+                                    end = p;
+                                    i += 1;
+                                }
                             }
                         }
+                        used = note(sizes, used, end - at, is_stepped(step, section[at]));
+                        at = end;
+                        if update {
+                            child = 0;
+                        } else {
+                            rows += 1;
+                            child = number;
+                            last = number;
+                        }
                     }
-                    used = note(sizes, used, end - at, is_stepped(step, section[at]));
-                    at = end;
-                    if update {
-                        child = 0;
-                    } else {
-                        rows += 1;
-                        child = number;
-                        last = number;
-                    }
+                }
+            } else {
+                used = note(sizes, used, said.end - at, is_stepped(step, section[at]));
+                at = said.end;
+                if said.kind == 3 {
+                    child = 0;
+                } else {
+                    rows += 1;
+                    child = said.number;
+                    last = said.number;
                 }
             }
         } else {

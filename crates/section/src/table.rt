@@ -36,7 +36,7 @@ pub(crate) fn put_row(
 }
 
 // The four bytes behind the one at `at` as a number; 0 where they are not whole.
-fn id_behind(section: &[u8], at: usize) -> usize
+pub(crate) fn id_behind(section: &[u8], at: usize) -> usize
     requires { ⌜ at ≤ 16777216 ⌝ }
     ensures { λ r. ⌜ (r < 4294967296) × (at + 5 ≤ length (now (section .entry)) → r ≡ idAt (now (section .entry)) at) ⌝ }
 {

@@ -62,9 +62,10 @@ add-put-row-2 c =
 put-row-requires : tie.Need-put-row-requires Inv-loop μ-loop
 put-row-requires c κs =
     let pre = c .before .before .before .before .before .before .before .before .pre in
-    let loop = c .before .before .before .before .loop in
-    (omega (arith, run-few (loop .inv .0), loop .inv .0 .inside, pre .1, pre .3),
-    record { kind = omega arith; id = omega arith; original = omega (arith, loop .inv .0 .inside, loop .inv .1, pre .1); update = omega arith })
+    let loop = c .before .before .before .before .loop in (
+      omega (arith, run-few (loop .inv .0), loop .inv .0 .inside, pre .1, pre .3),
+      record { kind = omega arith; id = omega arith; original = omega (arith, loop .inv .0 .inside, loop .inv .1, pre .1); update = omega arith },
+    )
 
 add-at : tie.Need-add-at Inv-loop μ-loop
 add-at c =
@@ -92,9 +93,11 @@ loop-again c =
     let loop = c .before .before .before .before .before .before .before .loop in
     let loop-test = c .before .before .before .before .before .before .loop-test in
     let if2 = c .before .before .before .before .if2 in
-    let put-row = c .before .before .put-row in
-    (run-next (loop .inv .0) (loop .inv .1) (loop-test .taken) (if2 .left) (omega (arith, if1 .left)), omega (arith, loop .inv .1, run-more (args .start) (loop .n) (args .step)),
-    rw (put-row .ensures) (laid-run-next _ _ _ _ _ _ _ (loop .inv .1) (loop .inv .2)))
+    let put-row = c .before .before .put-row in (
+      run-next (loop .inv .0) (loop .inv .1) (loop-test .taken) (if2 .left) (omega (arith, if1 .left)),
+      omega (arith, loop .inv .1, run-more (args .start) (loop .n) (args .step)),
+      rw (put-row .ensures) (laid-run-next _ _ _ _ _ _ _ (loop .inv .1) (loop .inv .2)),
+    )
 
 same-length-2 : tie.Need-same-length-2 Inv-loop μ-loop
 same-length-2 c = ap length (c .before .loop .inv .2) ∙ length-laid-run _ _ _ _ _
