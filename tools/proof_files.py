@@ -205,7 +205,7 @@ def write(block, skeleton, shared):
     suffix = re.search(r': tie\.Need-\S+(.*)', skeleton).group(1)
     for fact in block['facts']:
         out += fact_lines(fact, fields, suffix, defs)
-    for m in re.finditer(r'^(\S+) : (tie\.Need-(\S+).*)\n\1 (c(?: κs)?) = (?:\?|search needs)', skeleton, re.M):
+    for m in re.finditer(r'^(\S+) :\s+(tie\.Need-(\S+).*)\n\1 (c(?: κs)?) = (?:\?|search needs)', skeleton, re.M):
         takes[m.group(1)] = m.group(4)
         if m.group(1) in block['needs']:
             out += need_lines(block, m.group(1), m.group(2), m.group(4), list(places(fields, given[m.group(3)])), defs)

@@ -29,7 +29,7 @@ use Rattle.walk.proofs.Leap.{original-ends, update-ends, stops-few, update-stop
 use Rattle.shapes.specs.Data.{dataStops, dataAlways}
 use Rattle.shapes.specs.Shapes.{stopsIn, mapIn, tailIn, alwaysIn, Formed}
 use Rattle.shapes.specs.Masks.{Covers, isMarked, Shape}
-use Rattle.quick.specs.Quick.{Says, QuickRow, QuickUpdate, Leads, Leading, Over, Keeps}
+use Rattle.quick.specs.Quick.{Says, QuickRow, QuickUpdate, RowStep, Leads, Leading, Over, Keeps}
 use Rattle.maps.proofs.MapBits.{bit-small, or-bit, without-bit}
 use Rattle.quick.proofs.WordLaws.{leap-end}
 use Rattle.quick.proofs.MapRules.{set-by, row-opens, update-opens}
@@ -275,3 +275,13 @@ rigid-says shapes k s start o {form} {r} g n z (inr (e, l)) cs shape = inr (orig
     ends =
         let t : start + tailFrom isStop 0 (marks 0 cs) ≡ r = omega (arith, e, f .tail) in
         rw here (leap-end (bitSet (drop start s)) s (stopsFrom isNullable isStop 0 (marks 0 cs)) (tailFrom isStop 0 (marks 0 cs)) 0 start 0 (omega (arith, f .count, n)) (omega (arith, t, l)) ∙ rw t refl)
+
+-- the step from parent to parent
+pub step-says : (shapes : List ℕ) {form r : ℕ} → form ≡ getD shapes 0 0 → stopsIn form ≡ 0 → mapIn form ≡ 0 → r ≡ 1 + tailIn form → RowStep shapes r
+step-says shapes {form} {r} g n z e cs shape one s o at l =
+    let z₀ : at + 1 + tailIn form ≡ at + r = omega (arith, e) in
+    by (rigid-says shapes 0 s (at + 1) o g n z (inr (sym z₀, l)) cs shape)
+  where
+    by : Says (rowEnd cs s (at + 1)) (at + r) → rowEnd cs s (at + 1) ≡ ok (at + r)
+    by (inl x) = absurd (omega (arith, x, one))
+    by (inr q) = q

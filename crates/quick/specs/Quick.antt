@@ -8,7 +8,7 @@ use mathlib.Core.Bool.{Bool, true}
 use lib.Bits.{bitAnd}
 use lib.Dec.{eqb}
 use lib.ListN.{length, getD}
-use Rattle.wire.specs.Read.{Bytes, Read, ok, pick}
+use Rattle.wire.specs.Read.{Bytes, AreBytes, Read, ok, pick}
 use Rattle.maps.specs.Maps.{topBit}
 use Rattle.column.specs.declared.column.Column.{Column}
 use Rattle.column.specs.Columns.{lengthErrorOf}
@@ -31,6 +31,10 @@ QuickRow shapes k s start r = (cs : List Column) → Shape shapes k cs → Says 
 -- that of update data; no row of the top schema has such
 abbrev pub QuickUpdate : (shapes : List ℕ) (k : ℕ) → Bytes → (start r : ℕ) → Type 0
 QuickUpdate shapes k s start r = (cs : List Column) → 1 ≤ k → Shape shapes k cs → Says (updateEnd cs s start) r
+
+-- How far it is from one parent to the next, where all original row data of the top schema have one size: a token and the data. 0 says nothing.
+abbrev pub RowStep : (shapes : List ℕ) (r : ℕ) → Type 0
+RowStep shapes r = (cs : List Column) → Shape shapes 0 cs → 1 ≤ r → (s : Bytes) → AreBytes s → (at : ℕ) → at + r ≤ length s → rowEnd cs s (at + 1) ≡ ok (at + r)
 
 -- Inner.
 

@@ -5,7 +5,7 @@ ghost use mathlib.Core.Logic.{_⊎_};
 ghost use Prim.Native.Nat.{_+_, _≤_};
 ghost use lib.ListN.{length};
 ghost use Rattle.shapes.specs.Shapes.{tailIn};
-ghost use Rattle.quick.specs.Quick.{Keeps, Over, QuickRow, QuickUpdate};
+ghost use Rattle.quick.specs.Quick.{Keeps, Over, QuickRow, QuickUpdate, RowStep};
 use crate::steps::TOO_LONG;
 use crate::steps::lead_over;
 use crate::steps::length_over;
@@ -87,6 +87,20 @@ fn rigid_end(form: usize, size: usize, start: usize) -> usize
 {
     if holds(size, start, tail_in(form)) {
         return start + tail_in(form);
+    }
+    0
+}
+
+// How far it is from one parent to the next, where the row data of all have one size; else 0.
+pub fn row_step(shapes: &[usize]) -> usize
+    ensures { λ r. ⌜ RowStep (now (shapes .entry)) r × (r ≤ 65536) ⌝ }
+{
+    if shapes.len() == 0 {
+        return 0;
+    }
+    let form = shapes[0];
+    if is_rigid(form) {
+        return 1 + tail_in(form);
     }
     0
 }

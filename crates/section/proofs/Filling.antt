@@ -1,6 +1,6 @@
 -- Filling the table of a section that was accepted: what holds before an element, and how each element keeps it.
 -- Assumes nothing.
-use Prim.Native.Nat.{ℕ, suc, _+_, _*_, _-_, _/_, _%_, _<_, _≤_}
+use Prim.Native.Nat.{ℕ, zero, suc, _+_, _*_, _-_, _/_, _%_, _<_, _≤_}
 use mathlib.Core.Path.{_≡_, refl, sym, ap, _∙_}
 use mathlib.Core.Logic.{_⊎_, inl, inr}
 use mathlib.Core.List.{List, [], _++_}
@@ -9,34 +9,35 @@ use native.Mathlib.Omega.{arith}
 use native.Mathlib.Nat.{eq-or-lt-of-le}
 use lib.ListN.{length, getD}
 use lib.Dec.{eqb}
-use borrow.Author.Tests.{eqb-true, eqb-false}
+use borrow.Author.Tests.{eqb-false, ne-eqb}
 use Rattle.wire.specs.Read.{Bytes, AreBytes, Read, ok, bad, pick}
 use Rattle.wire.specs.Output.{put}
 use Rattle.wire.proofs.Pieces.{ok-ok, bad-ok}
-use Rattle.tree.specs.Schemas.{Schema}
+use mathlib.Core.Option.{Option, none, some}
+use Rattle.column.specs.declared.column.Column.{Column}
+use Rattle.walk.specs.Rows.{rowEnd}
+use Rattle.tree.specs.Schemas.{Schema, childNumber, or0}
+use Rattle.tree.proofs.Children.{child-found}
 use Rattle.grammar.specs.Grammar.{columnsAt, Row, entry}
 use Rattle.grammar.specs.Reader.{Token, parentToken, childToken, changeToken, deleteToken, doneToken, unknownToken, tokenOf, idAt, section}
 use Rattle.grammar.specs.Pending.{Pending, nothing, child-row, beforeOf, flush}
 use Rattle.grammar.proofs.Pending.{rows-are-section}
 use Rattle.section.specs.declared.table.Entry.{Entry}
-use Rattle.section.specs.declared.table.Size.{Size}
+use Rattle.section.specs.declared.notes.Size.{Size}
 use Rattle.section.specs.Heads.{HeadAt, headAt}
 use Rattle.section.specs.Table.{rowNumbers, SmallRow}
-use Rattle.section.specs.Scan.{laidFrom, Filled}
-use Rattle.section.specs.Sizes.{endBy, placeIn, elementStart, elementSize, noteBytes, noteStart, NotedAs, in-one, in-three, NotedOr0, Accepted, NotedThere, NotedIs, kindBy, startBy, rowBy, EntryAt}
+use Rattle.section.specs.Runs.{Run, laidRun}
+use Rattle.section.specs.Scan.{Ready, laidFrom}
+use Rattle.tree.specs.Table.{schemasIn}
+use Rattle.tree.proofs.TableSays.{schemas-in-length}
+use Rattle.section.proofs.Scanning.{columns-at}
+use Rattle.section.specs.Sizes.{endBy, elementStart, elementSize, noteBytes, inStep, isStepped, noteStart, NotedSome, Accepted, NotedIs, kindBy, startBy, rowBy, EntryAt, numberFor, startFor, endFor, ElementEnd}
+use Rattle.section.specs.Ends.{EndIs}
 use Rattle.walk.specs.Data.{dataEnd}
-use Rattle.section.proofs.RowsByHead.{HeadTold, told-done, told-delete, told-parent, told-child, told-change}
+use Rattle.section.proofs.RowsByHead.{HeadTold, told-done, told-delete, told-parent, told-child, told-change, byte-of}
 use Rattle.section.proofs.Scan.{allRows, AtElement, Begun, at-start, told, head-refused, head-done, deleted, Ahead, head-ahead, data-refused, data-inside, row-ended, change-ended, table-long}
-use Rattle.section.proofs.Noting.{bytes-one, bytes-three, data-ends, delete-ends}
-
--- the byte of a token
-abbrev ByteIs : Token → ℕ → Type 0
-ByteIs parentToken t = t ≡ 0x07
-ByteIs childToken t = t ≡ 0x87
-ByteIs changeToken t = t ≡ 0x8A
-ByteIs deleteToken t = t ≡ 0x8C
-ByteIs doneToken t = t ≡ 0x0F
-ByteIs unknownToken t = Unit {0}
+use Rattle.section.proofs.Noting.{data-ends, delete-ends, note-next, note-same, end-place, stepped-same}
+use Rattle.section.proofs.RunLaws.{laid-run-none, run-more, run-less, run-element, parent-ends, in-step}
 
 abbrev ElseIs : Token → Type 0
 ElseIs parentToken = Unit {0}
@@ -46,22 +47,6 @@ ElseIs deleteToken = Unit {0}
 ElseIs doneToken = ⊥
 ElseIs unknownToken = Unit {0}
 
-byte-is : (t : ℕ) → ByteIs (tokenOf t) t
-unfolding tokenOf
-byte-is t = go (eqb t 0x07) (eqb t 0x87) (eqb t 0x8A) (eqb t 0x8C) (eqb t 0x0F) refl refl refl refl refl
-  where
-    go : (a b c d e : Bool) → eqb t 0x07 ≡ a → eqb t 0x87 ≡ b → eqb t 0x8A ≡ c → eqb t 0x8C ≡ d → eqb t 0x0F ≡ e →
-        ByteIs (pick a parentToken (pick b childToken (pick c changeToken (pick d deleteToken (pick e doneToken unknownToken))))) t
-    go true b c d e p q r s u = eqb-true _ _ p
-    go false true c d e p q r s u = eqb-true _ _ q
-    go false false true d e p q r s u = eqb-true _ _ r
-    go false false false true e p q r s u = eqb-true _ _ s
-    go false false false false true p q r s u = eqb-true _ _ u
-    go false false false false false p q r s u = tt
-
-byte-of : (t : ℕ) (k : Token) → tokenOf t ≡ k → ByteIs k t
-byte-of t k e = rw e at (byte-is t)
-
 -- every other token is not that of the end
 not-done : {k : Token} → k ≡ doneToken → ElseIs k → ⊥
 not-done {k} e x = rw e at x
@@ -70,6 +55,7 @@ not-done {k} e x = rw e at x
 pub record Taken (S : List Schema) (s : Bytes) (entry₀ table : List ℕ) (at rows origin : ℕ) (token : ℕ) : Type 0 where
   pub end : ℕ
   pub ends : endBy S s at (tokenOf token) ≡ ok end
+  pub asked : endFor (kindBy token) (columnsAt S (numberFor S (kindBy token) (rowBy s at origin token .id))) s at ≡ ok end
   pub onward : at < end
   pub some : 1 ≤ rows + (1 - kindBy token / 3)
   pub whole : 1 ≤ token / 128 → at + 5 ≤ length s
@@ -146,6 +132,7 @@ module _ (S : List Schema) (s : Bytes) (entry₀ table : List ℕ) (at rows orig
           (record {
             end = at + 5;
             ends = rw t at f;
+            asked = refl;
             onward = omega arith;
             some = rw g (d .some);
             whole = λ z. l;
@@ -167,6 +154,7 @@ module _ (S : List Schema) (s : Bytes) (entry₀ table : List ℕ) (at rows orig
           (record {
             end = x;
             ends = rw t at f;
+            asked = q;
             onward = omega arith;
             some = omega arith;
             whole = λ z. absurd (omega (arith, z));
@@ -188,6 +176,7 @@ module _ (S : List Schema) (s : Bytes) (entry₀ table : List ℕ) (at rows orig
           (record {
             end = x;
             ends = rw t at f;
+            asked = rw (← j, c, ← u) q;
             onward = omega arith;
             some = omega arith;
             whole = λ z. omega arith;
@@ -209,6 +198,7 @@ module _ (S : List Schema) (s : Bytes) (entry₀ table : List ℕ) (at rows orig
           (record {
             end = x;
             ends = rw t at f;
+            asked = rw (← j, c, ← u) q;
             onward = omega arith;
             some = rw g m;
             whole = λ z. omega arith;
@@ -218,73 +208,143 @@ module _ (S : List Schema) (s : Bytes) (entry₀ table : List ℕ) (at rows orig
             element = rw (g, n, ← j) w;
           })
 
--- Before an element at `at`, whose size is noted at i: rows are laid, `origin` is where the data of an open child row start.
-pub record AtFill (s : Bytes) (sizes : List ℕ) (a : Accepted s sizes) (entry table : List ℕ) (at rows origin i : ℕ) : Type 0 where
+-- where the notes stand before an element at `at`: at its own, or behind the last
+pub record FillNote (step : ℕ) (S : List Schema) (s : Bytes) (sizes : List ℕ) (n : NotedSome step S s sizes) (at i : ℕ) : Type 0 where
+  pub elements : ℕ
+  pub place : at ≡ elementStart S s elements
+  pub next : ((elements ≤ n .elements) × (i ≡ noteStart step S s elements)) ⊎ ((n .elements ≤ elements) × (i ≡ noteStart step S s (n .elements)))
+
+module _ (step : ℕ) (S : List Schema) (s : Bytes) (sizes : List ℕ) (n : NotedSome step S s sizes) (at i : ℕ) (f : FillNote step S s sizes n at i)
+    (e : ℕ) (h : endBy S s at (tokenOf (getD s at 0)) ≡ ok e) where
+  there : e ≡ elementStart S s (suc (f .elements))
+  there = end-place step S s at e h (f .elements) (f .place)
+
+  -- an element that is passed
+  pub fill-passed : inStep step (getD s at 0) ≡ true → FillNote step S s sizes n e i
+  fill-passed t = record { elements = suc (f .elements); place = there; next = by (f .next) }
+    where
+      by : ((f .elements ≤ n .elements) × (i ≡ noteStart step S s (f .elements))) ⊎ ((n .elements ≤ f .elements) × (i ≡ noteStart step S s (n .elements))) →
+          ((suc (f .elements) ≤ n .elements) × (i ≡ noteStart step S s (suc (f .elements)))) ⊎ ((n .elements ≤ suc (f .elements)) × (i ≡ noteStart step S s (n .elements)))
+      by (inr (l, u)) = inr (omega arith, u)
+      by (inl (l, u)) = go (eq-or-lt-of-le l)
+        where
+          go : (f .elements ≡ n .elements) ⊎ (f .elements < n .elements) →
+              ((suc (f .elements) ≤ n .elements) × (i ≡ noteStart step S s (suc (f .elements)))) ⊎ ((n .elements ≤ suc (f .elements)) × (i ≡ noteStart step S s (n .elements)))
+          go (inl q) = inr (omega arith, u ∙ ap (noteStart step S s) q)
+          go (inr q) = inl (omega arith, u ∙ sym (note-same step S s (f .elements) (stepped-same step S s at e h (f .elements) (f .place) t)))
+
+  -- by what is read of the notes
+  module _ (m : Size) (reads : NotedIs sizes i (inStep step (getD s at 0)) m) (onward : at < e) where
+    size-is : e - at ≡ elementSize S s (f .elements)
+    size-is = omega (arith, there, f .place)
+
+    -- a size that is noted is the element's
+    its-own : f .elements < n .elements → i ≡ noteStart step S s (f .elements) → inStep step (getD s at 0) ≡ false → (m .bytes ≡ e - at) × (m .next ≡ i + noteBytes (e - at))
+    its-own l u t = reads .noted (e - at) t (rw (u, size-is) (n .noted (f .elements) l (stepped-same step S s at e h (f .elements) (f .place) t)))
+
+    -- none is read behind the last
+    behind : i ≡ noteStart step S s (n .elements) → m .bytes ≡ 0
+    behind u = reads .none (ap (λ (k : ℕ). getD sizes k 0) u ∙ n .stops)
+
+    pub fill-noted : (m .bytes ≡ 0 → ⊥) → (at + m .bytes ≡ e) × FillNote step S s sizes n e (m .next)
+    fill-noted z = by (f .next) (inStep step (getD s at 0)) refl
+      where
+        by : ((f .elements ≤ n .elements) × (i ≡ noteStart step S s (f .elements))) ⊎ ((n .elements ≤ f .elements) × (i ≡ noteStart step S s (n .elements))) →
+            (b : Bool) → inStep step (getD s at 0) ≡ b → (at + m .bytes ≡ e) × FillNote step S s sizes n e (m .next)
+        by c true t = absurd (z (reads .skipped t))
+        by (inr (l, u)) false t = absurd (z (behind u))
+        by (inl (l, u)) false t = go (eq-or-lt-of-le l)
+          where
+            go : (f .elements ≡ n .elements) ⊎ (f .elements < n .elements) → (at + m .bytes ≡ e) × FillNote step S s sizes n e (m .next)
+            go (inl q) = absurd (z (behind (u ∙ ap (noteStart step S s) q)))
+            go (inr q) =
+                let (x, y) = its-own q u t in
+                let g : isStepped step S s (f .elements) ≡ false = stepped-same step S s at e h (f .elements) (f .place) t in (
+                  omega (arith, x, onward),
+                  record {
+                    elements = suc (f .elements);
+                    place = there;
+                    next = inl (omega arith, y ∙ rw (u, size-is) refl ∙ sym (note-next step S s (f .elements) g));
+                  },
+                )
+
+    pub fill-asked : m .bytes ≡ 0 → FillNote step S s sizes n e i
+    fill-asked z = by (f .next) (inStep step (getD s at 0)) refl
+      where
+        by : ((f .elements ≤ n .elements) × (i ≡ noteStart step S s (f .elements))) ⊎ ((n .elements ≤ f .elements) × (i ≡ noteStart step S s (n .elements))) →
+            (b : Bool) → inStep step (getD s at 0) ≡ b → FillNote step S s sizes n e i
+        by c true t = fill-passed t
+        by (inr (l, u)) false t = record { elements = suc (f .elements); place = there; next = inr (omega arith, u) }
+        by (inl (l, u)) false t = go (eq-or-lt-of-le l)
+          where
+            go : (f .elements ≡ n .elements) ⊎ (f .elements < n .elements) → FillNote step S s sizes n e i
+            go (inl q) = record { elements = suc (f .elements); place = there; next = inr (omega arith, u ∙ ap (noteStart step S s) q) }
+            go (inr q) = let (x, y) = its-own q u t in absurd (omega (arith, x, z, onward))
+
+-- Before an element at `at`: rows are laid, `origin` is where the data of an open child row start, and the notes stand at i.
+pub record AtFill (step : ℕ) (S : List Schema) (s : Bytes) (sizes : List ℕ) (n : NotedSome step S s sizes) (entry table : List ℕ) (at rows origin i : ℕ) : Type 0 where
   pub pending : Pending
-  pub element : AtElement (a .schemas) s entry table at rows pending
+  pub element : AtElement S s entry table at rows pending
   pub begun : Begun pending origin
   pub low : origin ≤ length s
-  pub elements : ℕ
-  pub few : elements ≤ a .all .elements
-  pub place : at ≡ elementStart (a .schemas) s elements
-  pub next : i ≡ noteStart (a .schemas) s elements
+  pub note : FillNote step S s sizes n at i
 
-pub fill-start : (s : Bytes) (sizes : List ℕ) (a : Accepted s sizes) (table : List ℕ) → AtFill s sizes a table table 0 0 0 0
+pub fill-start : (step : ℕ) (S : List Schema) (s : Bytes) (sizes : List ℕ) (n : NotedSome step S s sizes) (table : List ℕ) → AtFill step S s sizes n table table 0 0 0 0
 unfolding elementStart noteStart
-fill-start s sizes a table =
+fill-start step S s sizes n table =
     record {
       pending = nothing;
-      element = at-start (a .schemas) s table;
+      element = at-start S s table;
       begun = nothing-begun 0;
       low = omega arith;
-      elements = 0;
-      few = omega arith;
-      place = refl;
-      next = refl;
+      note = record { elements = 0; place = refl; next = inl (omega arith, refl) };
     }
 
-module _ (s : Bytes) (sizes : List ℕ) (a : Accepted s sizes) (entry₀ table : List ℕ) (at rows origin i : ℕ) (f : AtFill s sizes a entry₀ table at rows origin i) (o : AreBytes s) where
-  abbrev S : List Schema
-  S = a .schemas
-
-  good : allRows S s ≡ ok (a .rows)
-  good = sym (rows-are-section S s) ∙ a .splits
+module _ (step : ℕ) (S : List Schema) (s : Bytes) (sizes : List ℕ) (acc : Accepted S s step sizes) (top : 1 ≤ length S) (o : AreBytes s) (entry₀ table : List ℕ) (at rows origin i : ℕ)
+    (f : AtFill step S s sizes (acc .some) entry₀ table at rows origin i) where
+  good : allRows S s ≡ ok (acc .rows)
+  good = sym (rows-are-section S s) ∙ acc .splits
 
   pub fill-inside : at < length s
-  fill-inside = token-there S s entry₀ table at rows origin (f .pending) (f .element) (f .begun) o (a .top) (a .rows) good
+  fill-inside = token-there S s entry₀ table at rows origin (f .pending) (f .element) (f .begun) o top (acc .rows) good
 
-  pub fill-done : getD s at 0 ≡ 0x0F → table ≡ laidFrom 0 (a .rows) entry₀
+  pub fill-done : getD s at 0 ≡ 0x0F → (rs : List Row) → section S s ≡ ok rs → table ≡ laidFrom 0 rs entry₀
   unfolding tokenOf
-  fill-done e =
+  fill-done e rs q =
       f .element .holds
-      ∙ ap (λ (rs : List Row). laidFrom 0 rs entry₀) (sym (done-rows S s entry₀ table at rows origin (f .pending) (f .element) (f .begun) o (a .top) (a .rows) good (ap tokenOf e)))
+      ∙ ap (λ (rs : List Row). laidFrom 0 rs entry₀)
+      (sym (done-rows S s entry₀ table at rows origin (f .pending) (f .element) (f .begun) o top (acc .rows) good (ap tokenOf e)) ∙ ok-ok (sym (acc .splits) ∙ q))
 
   pub fill-long : length table ≡ length entry₀
   fill-long = table-long S s entry₀ table at rows (f .pending) (f .element)
 
+  -- a run of parents
+  pub fill-run : (1 ≤ step → (p : ℕ) → p + step ≤ length s → rowEnd (columnsAt S 0) s (p + 1) ≡ ok (p + step)) → {m : ℕ} → Run s at step m → (m ≡ 0 → ⊥) →
+      AtFill step S s sizes (acc .some) entry₀ (laidRun rows at step m table) (at + m * step) (rows + m) origin i
+  fill-run ends {m} r z =
+      record {
+        pending = nothing;
+        element = rw (ne-eqb m 0 z) at (run-element S s step top o ends m r (f .element));
+        begun = nothing-begun origin;
+        low = f .low;
+        note = run-filled m r;
+      }
+    where
+      run-filled : (k : ℕ) → Run s at step k → FillNote step S s sizes (acc .some) (at + k * step) i
+      run-filled zero r = let x : at + 0 * step ≡ at = omega arith in rw x (f .note)
+      run-filled (suc k) r =
+          let one : 1 ≤ step = r .stepped (omega arith) in
+          let x : at + suc k * step ≡ at + k * step + step = run-more at k step in
+          let t : getD s (at + k * step) 0 ≡ 0x07 = r .parents k (omega arith) in
+          rw x
+          (fill-passed step S s sizes (acc .some) (at + k * step) i (run-filled k (run-less r)) (at + k * step + step)
+          (parent-ends S s (at + k * step) _ t (ends one (at + k * step) (omega (arith, r .inside, x)))) (in-step step _ one t))
+
   module _ (n : getD s at 0 ≡ 0x0F → ⊥) where
     pub fill-taken : Taken S s entry₀ table at rows origin (getD s at 0)
-    fill-taken = taken S s entry₀ table at rows origin (f .pending) (f .element) (f .begun) o (a .top) (a .rows) good n
+    fill-taken = taken S s entry₀ table at rows origin (f .pending) (f .element) (f .begun) o top (acc .rows) good n
 
-    -- it is not behind the last one
-    more : f .elements < a .all .elements
-    more = by (eq-or-lt-of-le (f .few))
-      where
-        by : (f .elements ≡ a .all .elements) ⊎ (f .elements < a .all .elements) → f .elements < a .all .elements
-        by (inl e) = absurd (n (byte-of _ doneToken (ap (λ (j : ℕ). tokenOf (getD s j 0)) (f .place ∙ ap (elementStart S s) e) ∙ a .all .ends)))
-        by (inr l) = l
-
-    place-next : fill-taken .end ≡ elementStart S s (suc (f .elements))
-    unfolding elementStart
-    place-next = ap placeIn (sym (fill-taken .ends)) ∙ ap (λ (q : ℕ). placeIn (endBy S s q (tokenOf (getD s q 0)))) (f .place)
-
-    size-same : elementSize S s (f .elements) ≡ fill-taken .end - at
-    size-same = rw (place-next, f .place) refl
-
-    pub size-noted : NotedAs sizes i (fill-taken .end - at)
-    size-noted = rw (← f .next, size-same) at (a .all .noted (f .elements) more)
-
-    -- The entry that code makes, and the size that it reads.
+    -- The entry that code makes.
     module _ (e : Entry) (same : EntryAt s at origin e) where
       abbrev row : Row
       row = entry (e .kind) (e .id) (e .original) (e .update)
@@ -298,50 +358,62 @@ module _ (s : Bytes) (sizes : List ℕ) (a : Accepted s sizes) (entry₀ table :
       pub entry-fits : length s ≤ 16777216 → (rows + (1 - e .kind / 3) - 1 ≤ 16777216) × SmallRow row
       entry-fits l = (omega (arith, f .element .few, f .element .inside), same .small)
 
-      module _ (m : Size) (reads : NotedIs sizes i m) where
-        pub size-onward : (at < at + m .bytes) × (at + m .bytes ≤ length s)
-        size-onward =
-            let z : m .bytes ≡ fill-taken .end - at = reads _ size-noted .0 in
-            (omega (arith, fill-taken .onward), omega (arith, fill-taken .onward, fill-taken .element .inside))
+      -- where it ends, by its kind and id
+      pub entry-asked : endFor (e .kind) (columnsAt S (numberFor S (e .kind) (e .id))) s at ≡ ok (fill-taken .end)
+      entry-asked = rw (same .kind, ap (λ (r : Row). r .id) entry-same) (fill-taken .asked)
 
-        original-low : (b : Bool) → pick b (startBy at (getD s at 0)) origin ≤ length s
-        original-low true = fill-taken .begins
-        original-low false = f .low
+      pub taken-inside : (at < fill-taken .end) × (fill-taken .end ≤ length s)
+      taken-inside = (fill-taken .onward, fill-taken .element .inside)
 
-        pub fill-next : AtFill s sizes a entry₀ (put table (4 * (rows + (1 - e .kind / 3) - 1)) (rowNumbers row)) (at + m .bytes) (rows + (1 - e .kind / 3)) (e .original) (m .next)
-        unfolding noteStart
-        fill-next =
-            let (z, y) = reads _ size-noted in
-            let q : at + m .bytes ≡ fill-taken .end = omega (arith, z, fill-taken .onward) in
-            let g : e .original ≡ rowBy s at origin (getD s at 0) .original = ap (λ (r : Row). r .original) entry-same in
-            record {
-              pending = fill-taken .pending;
-              element = rw (q, entry-same, same .kind) (fill-taken .element);
-              begun = rw g (fill-taken .begun);
-              low = rw g (original-low (eqb (kindBy (getD s at 0) / 3) 0));
-              elements = suc (f .elements);
-              few = more;
-              place = q ∙ place-next;
-              next = y ∙ rw (← size-same, f .next) refl;
-            }
+      original-low : (b : Bool) → pick b (startBy at (getD s at 0)) origin ≤ length s
+      original-low true = fill-taken .begins
+      original-low false = f .low
 
--- What is read at a size that was noted.
-module _ (sizes : List ℕ) (i : ℕ) where
-  pub noted-inside : NotedThere sizes i → i < length sizes
-  noted-inside (n, in-one x y l) = l
-  noted-inside (n, in-three x y v l) = omega (arith, l)
+      next-at : {i′ : ℕ} → FillNote step S s sizes (acc .some) (fill-taken .end) i′ →
+          AtFill step S s sizes (acc .some) entry₀ (put table (4 * (rows + (1 - e .kind / 3) - 1)) (rowNumbers row)) (fill-taken .end) (rows + (1 - e .kind / 3)) (e .original) i′
+      next-at note =
+          let g : e .original ≡ rowBy s at origin (getD s at 0) .original = ap (λ (r : Row). r .original) entry-same in
+          record {
+            pending = fill-taken .pending;
+            element = rw (entry-same, same .kind) (fill-taken .element);
+            begun = rw g (fill-taken .begun);
+            low = rw g (original-low (eqb (kindBy (getD s at 0) / 3) 0));
+            note = note;
+          }
 
-  pub noted-three : NotedThere sizes i → 255 ≤ getD sizes i 0 → i + 2 < length sizes
-  noted-three (n, in-one x y l) h = absurd (omega (arith, h, x, y))
-  noted-three (n, in-three x y v l) h = l
+      -- By the size that code reads, or the end that it asks.
+      module _ (m : Size) (reads : NotedIs sizes i (inStep step (getD s at 0)) m) where
+        noted-there : (m .bytes ≡ 0 → ⊥) → (at + m .bytes ≡ fill-taken .end) × FillNote step S s sizes (acc .some) (fill-taken .end) (m .next)
+        noted-there z = fill-noted step S s sizes (acc .some) at i (f .note) (fill-taken .end) (fill-taken .ends) m reads (fill-taken .onward) z
 
-  pub read-one : (r : Size) → getD sizes i 0 < 255 → r .bytes ≡ getD sizes i 0 → r .next ≡ i + 1 → NotedIs sizes i r
-  read-one r h p q n (in-one x y l) = (p ∙ y, rw (bytes-one n x) q)
-  read-one r h p q n (in-three x y v l) = absurd (omega (arith, h, y))
+        pub size-onward : (m .bytes ≡ 0 → ⊥) → (at < at + m .bytes) × (at + m .bytes ≤ length s)
+        size-onward z = let (x, y) = noted-there z in let (a, b) = taken-inside in (omega (arith, x, a), omega (arith, x, b))
 
-  pub read-three : (r : Size) → 255 ≤ getD sizes i 0 → r .bytes ≡ 256 * getD sizes (i + 1) 0 + getD sizes (i + 2) 0 → r .next ≡ i + 3 → NotedIs sizes i r
-  read-three r h p q n (in-one x y l) = absurd (omega (arith, h, x, y))
-  read-three r h p q n (in-three x y v l) = (p ∙ v, rw (bytes-three n x) q)
+        pub fill-next : (m .bytes ≡ 0 → ⊥) →
+            AtFill step S s sizes (acc .some) entry₀ (put table (4 * (rows + (1 - e .kind / 3) - 1)) (rowNumbers row)) (at + m .bytes) (rows + (1 - e .kind / 3)) (e .original) (m .next)
+        fill-next z = let (x, y) = noted-there z in rw x (next-at y)
+
+        pub fill-next-asked : m .bytes ≡ 0 → {r : ℕ} → r ≡ fill-taken .end →
+            AtFill step S s sizes (acc .some) entry₀ (put table (4 * (rows + (1 - e .kind / 3) - 1)) (rowNumbers row)) r (rows + (1 - e .kind / 3)) (e .original) i
+        fill-next-asked z q = rw q (next-at (fill-asked step S s sizes (acc .some) at i (f .note) (fill-taken .end) (fill-taken .ends) m reads (fill-taken .onward) z))
+
+-- where an element ends whose data end there
+pub element-ended : (kind : ℕ) (cs : List Column) (s : Bytes) (at : ℕ) {start r : ℕ} → (kind ≡ 4 → ⊥) → start ≡ startFor kind at → EndIs (eqb kind 3) cs s start r →
+    (e : ℕ) → endFor kind cs s at ≡ ok e → r ≡ e
+element-ended kind cs s at n z ends e q = ends e (rw z (rw (ne-eqb _ _ n) at q))
+
+-- a table with no rows of a run laid into it
+pub no-run : (first start step n : ℕ) (table : List ℕ) → n ≡ 0 → laidRun first start step n table ≡ table
+no-run first start step n table z = rw z (sym (laid-run-none first start step table))
+
+-- the number of a row's schema is one of the schemas
+pub number-low : (S : List Schema) (kind id : ℕ) → 1 ≤ length S → numberFor S kind id < length S
+number-low S kind id top = go (eqb kind 1) (childNumber S id) refl
+  where
+    go : (b : Bool) (c : Option ℕ) → childNumber S id ≡ c → pick b 0 (or0 c) < length S
+    go true c e = omega (arith, top)
+    go false none e = omega (arith, top)
+    go false (some k) e = child-found S id k e .1
 
 -- a choice of two numbers that are both small
 chosen-under : (b : Bool) (x y n : ℕ) {r : ℕ} → r ≡ pick b x y → x < n → y < n → r < n
@@ -374,13 +446,15 @@ module _ (s : Bytes) (at origin t r : ℕ) (e : Entry) (z : t ≡ getD s at 0) (
             };
       }
 
--- a section that was accepted, where the first size is not 0
-pub accepted : (S : List Schema) (s : Bytes) (sizes : List ℕ) (rs : List Row) → 1 ≤ length S → section S s ≡ ok rs → NotedOr0 S s sizes → (getD sizes 0 0 ≡ 0 → ⊥) → Accepted s sizes
-accepted S s sizes rs h q (inl z) n = absurd (n z)
-accepted S s sizes rs h q (inr a) n = record { schemas = S; top = h; rows = rs; splits = q; all = a }
+-- the number that is asked for is one of the schemas
+pub asked-low : {slots shapes : List ℕ} {n step : ℕ} {s : Bytes} → Ready slots shapes n s step → (number kind id : ℕ) → number ≡ numberFor (schemasIn 0 n slots) kind id → number < n
+asked-low {slots} {shapes} {n} ready number kind id z =
+    let m : length (schemasIn 0 n slots) ≡ n = schemas-in-length 0 n slots in
+    omega (arith, z, number-low (schemasIn 0 n slots) kind id (omega (arith, m, ready .sound .top)), m)
 
--- and whose table was filled
-pub filled-rows : (S : List Schema) (s : Bytes) (sizes entry exit : List ℕ) (rs : List Row) → 1 ≤ length S → section S s ≡ ok rs → NotedOr0 S s sizes →
-    (getD sizes 0 0 ≡ 0 → ⊥) → Filled s sizes entry exit → exit ≡ laidFrom 0 rs entry
-filled-rows S s sizes entry exit rs h q (inl z) n f = absurd (n z)
-filled-rows S s sizes entry exit rs h q (inr a) n f = f (record { schemas = S; top = h; rows = rs; splits = q; all = a })
+-- the end that is asked is the element's
+pub asked-end : {slots shapes : List ℕ} {n step : ℕ} {s : Bytes} → Ready slots shapes n s step → (number kind id at : ℕ) {r e : ℕ} → number ≡ numberFor (schemasIn 0 n slots) kind id →
+    ElementEnd slots shapes number kind s at r → endFor kind (columnsAt (schemasIn 0 n slots) (numberFor (schemasIn 0 n slots) kind id)) s at ≡ ok e → r ≡ e
+asked-end {slots} {shapes} {n} {step} {s} ready number kind id at {r} {e} z ends q =
+    let l : number < n = asked-low ready number kind id z in
+    ends (ready .shaped number l) e (ap (λ (cs : List Column). endFor kind cs s at) (sym (columns-at slots n number l) ∙ ap (columnsAt (schemasIn 0 n slots)) z) ∙ q)

@@ -225,3 +225,21 @@ number-some ss id {k} h n = go (childNumber ss id) h
     go : (o : Option ℕ) → k ≡ or0 o → o ≡ some k
     go none e = absurd (n e)
     go (some j) e = ap (λ (m : ℕ). some m) (sym e)
+
+-- The heads that the quick way knows, where five bytes are there.
+module _ (slots : List ℕ) (n : ℕ) (s : Bytes) (at : ℕ) (h : at + 5 ≤ length s) where
+  five : whole s (at + 1) 4 ≡ ok (at + 5)
+  five = let z : at + 1 + 4 ≡ at + 5 = omega arith in whole-fits s (at + 1) 4 (omega arith) ∙ ap (λ (x : ℕ). ok x) z
+
+  pub said-child : (b : Before) (id k : ℕ) → getD s at 0 ≡ 0x87 → id ≡ idAt s at → k ≡ or0 (childNumber (schemasIn 0 n slots) id) → (k ≡ 0 → ⊥) →
+      headAt (schemasIn 0 n slots) s b at ≡ ok (dataHead 2 k (idAt s at) (at + 5))
+  said-child b id k t e q z =
+      head-child (schemasIn 0 n slots) s b at (omega arith) t
+      ∙ child-known (schemasIn 0 n slots) s other at five (ap (childNumber (schemasIn 0 n slots)) (sym e) ∙ number-some (schemasIn 0 n slots) id q z)
+
+  pub said-change : (child id : ℕ) → Sound slots n → child < n → getD s at 0 ≡ 0x8A → id ≡ idAt s at → 0 < child → idIn (getD slots (schemaSlot child) 0) ≡ id →
+      headAt (schemasIn 0 n slots) s (beforeIn slots child) at ≡ ok (dataHead 3 child (idAt s at) (at + 5))
+  said-change child id sound l t e p i =
+      let f : follows (beforeIn slots child) (idAt s at) ≡ true = follows-child slots child (idAt s at) p ∙ eq-eqb _ _ (i ∙ e) in
+      head-change (schemasIn 0 n slots) s (beforeIn slots child) at (omega arith) t
+      ∙ change-followed slots n child s at sound l (paired-found s (beforeIn slots child) at five f)

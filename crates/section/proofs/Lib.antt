@@ -4,6 +4,7 @@ pub mod RowsByHead
 pub mod Laid
 pub mod Scan
 pub mod Noting
+pub mod RunLaws
 pub mod Scanning
 pub mod Filling
 pub mod Listing

@@ -3,7 +3,7 @@
 use Prim.Native.Nat.{ℕ, zero, suc, _+_, _≤_}
 use mathlib.Core.Path.{_≡_, refl, sym, ap, _∙_}
 use mathlib.Core.List.{List, [], _∷_}
-use mathlib.Core.Bool.{true}
+use mathlib.Core.Bool.{Bool, true, false}
 use mathlib.Core.Option.{Option, none, some}
 use native.Mathlib.Omega.{arith}
 use lib.ListN.{length, getD}
@@ -121,3 +121,28 @@ head-told S s before at h e =
     let (b, w, r) = bind-ok _ _ h e in
     let (x, y) = whole-inside s at 1 b w in
     told-by S s before at y (tokenOf (getD s at 0)) h refl r
+
+-- the byte of a token
+abbrev pub ByteIs : Token → ℕ → Type 0
+ByteIs parentToken t = t ≡ 0x07
+ByteIs childToken t = t ≡ 0x87
+ByteIs changeToken t = t ≡ 0x8A
+ByteIs deleteToken t = t ≡ 0x8C
+ByteIs doneToken t = t ≡ 0x0F
+ByteIs unknownToken t = Unit {0}
+
+byte-is : (t : ℕ) → ByteIs (tokenOf t) t
+unfolding tokenOf
+byte-is t = go (eqb t 0x07) (eqb t 0x87) (eqb t 0x8A) (eqb t 0x8C) (eqb t 0x0F) refl refl refl refl refl
+  where
+    go : (a b c d e : Bool) → eqb t 0x07 ≡ a → eqb t 0x87 ≡ b → eqb t 0x8A ≡ c → eqb t 0x8C ≡ d → eqb t 0x0F ≡ e →
+        ByteIs (pick a parentToken (pick b childToken (pick c changeToken (pick d deleteToken (pick e doneToken unknownToken))))) t
+    go true b c d e p q r s u = eqb-true _ _ p
+    go false true c d e p q r s u = eqb-true _ _ q
+    go false false true d e p q r s u = eqb-true _ _ r
+    go false false false true e p q r s u = eqb-true _ _ s
+    go false false false false true p q r s u = eqb-true _ _ u
+    go false false false false false p q r s u = tt
+
+pub byte-of : (t : ℕ) (k : Token) → tokenOf t ≡ k → ByteIs k t
+byte-of t k e = rw e at (byte-is t)

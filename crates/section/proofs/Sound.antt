@@ -6,22 +6,22 @@ use mathlib.Core.List.{List, []}
 use mathlib.Core.Option.{some}
 use native.Mathlib.Omega.{arith}
 use lib.ListN.{length, getD}
-use Rattle.wire.specs.Read.{Bytes, AreBytes, ok}
+use Rattle.wire.specs.declared.error.Error.{Error}
+use Rattle.wire.specs.Read.{Bytes, AreBytes, Read, ok, refused, _>>=_}
 use Rattle.wire.proofs.Pieces.{bind-ok, ok-ok}
 use Rattle.tree.specs.Tree.{Tree, WellFormed, counts}
 use Rattle.tree.specs.Reader.{fileOf}
 use Rattle.tree.specs.Schemas.{Schema, schema, schemasOf, readSchemas, columnCount, childNumber}
 use Rattle.tree.specs.Table.{schemaSlot, idIn, startIn, countIn, schemaIn, schemasIn, Slots}
 use Rattle.schema.specs.declared.reader.Place.{Place}
-use Rattle.schema.specs.declared.reader.PlaceRead.the-variants as place
-use Rattle.schema.specs.declared.reader.FileTable.{FileTable}
-use Rattle.schema.specs.Told.{placed, blank, Tabled}
+use Rattle.schema.specs.Told.{placed, blank}
+use Rattle.tree.specs.Filling.{Filled, fillFile}
 use Rattle.tree.proofs.SchemaLists.{schemas-length, column-total, schemas-few}
 use Rattle.tree.proofs.Children.{child-only}
 use Rattle.tree.proofs.TableSays.{schemas-in-length, schemas-in-at}
 use Rattle.tree.proofs.Theorem.{file-of-iff}
-use Rattle.tree.proofs.Filled.{schemas-read, slots-of}
-use Rattle.schema.proofs.Tabled.{blank-long, tabled-read}
+use Rattle.tree.proofs.Filled.{schemas-refused, schemas-read, file-read, slots-of}
+use Rattle.schema.proofs.Tabled.{blank-long}
 use Rattle.shapes.specs.Shapes.{Sound}
 
 -- A table that says the schemas of a well-formed file.
@@ -52,27 +52,39 @@ module _ (t : Tree) (good : WellFormed t) (n : ℕ) (slots : List ℕ) (says : s
       ∙ sym (ap (λ (ss : List Schema). childNumber ss (getD (schemasOf t) k (schema 0 []) .id)) says)
       ∙ child-only t good k l (omega (arith, same-count))
 
-module _ {b : Bytes} {r : FileTable} {p : Place} (bytes : AreBytes b) (t : Tabled b r) (h : r .read ≡ place.Read p) where
+-- The table that a file was read into, from zeros.
+module _ (b : Bytes) (table : List ℕ) (p : Place) (bytes : AreBytes b) (h : fillFile b blank ≡ ok (placed p table)) where
   -- The schemas of the file are those of the table.
-  pub schemas-of : readSchemas b ≡ ok (schemasIn 0 (p .schemas) (r .table))
-  schemas-of = schemas-read b blank bytes blank-long (placed p (r .table)) (tabled-read t h)
+  pub schemas-of : readSchemas b ≡ ok (schemasIn 0 (p .schemas) table)
+  schemas-of = schemas-read b blank bytes blank-long (placed p table) h
 
   -- The table is sound.
-  pub sound-of : Sound (r .table) (p .schemas)
+  pub sound-of : Sound table (p .schemas)
   unfolding readSchemas
   sound-of =
-      let (t, e, g) = bind-ok (fileOf b) (λ t. ok (schemasOf t)) (schemasIn 0 (p .schemas) (r .table)) schemas-of in
+      let (t, e, g) = bind-ok (fileOf b) (λ t. ok (schemasOf t)) (schemasIn 0 (p .schemas) table) schemas-of in
       let good : WellFormed t = file-of-iff b t bytes .0 e .1 in
-      let says : schemasOf t ≡ schemasIn 0 (p .schemas) (r .table) = ok-ok g in
-      let n : p .schemas ≡ length (schemasOf t) = same-count t good (p .schemas) (r .table) says in
+      let says : schemasOf t ≡ schemasIn 0 (p .schemas) table = ok-ok g in
+      let n : p .schemas ≡ length (schemasOf t) = same-count t good (p .schemas) table says in
       record {
         top = omega (arith, n, schemas-length t);
         all = omega (arith, n, schemas-length t, schemas-few good);
         few = λ k l. slots k l .few;
         inside = λ k l. slots k l .inside;
-        total = same-total t good (p .schemas) (r .table) says;
-        once = same-child t good (p .schemas) (r .table) says;
+        total = same-total t good (p .schemas) table says;
+        once = same-child t good (p .schemas) table says;
       }
     where
-      slots : (k : ℕ) → k < p .schemas → Slots (startIn (getD (r .table) (schemaSlot k) 0)) (countIn (getD (r .table) (schemaSlot k) 0)) (p .schemas)
-      slots k l = slots-of b blank bytes blank-long (placed p (r .table)) (tabled-read t h) k l
+      slots : (k : ℕ) → k < p .schemas → Slots (startIn (getD table (schemaSlot k) 0)) (countIn (getD table (schemaSlot k) 0)) (p .schemas)
+      slots k l = slots-of b blank bytes blank-long (placed p table) h k l
+
+  -- It has as many columns as were counted.
+  pub columns-of : columnCount (schemasIn 0 (p .schemas) table) ≡ p .columns
+  unfolding readSchemas
+  columns-of =
+      let r = file-read b blank bytes blank-long (placed p table) h in
+      let says : schemasOf (r .tree) ≡ schemasIn 0 (p .schemas) table = ok-ok (sym (ap (λ (x : Read Tree). x >>= λ t. ok (schemasOf t)) (r .reads)) ∙ schemas-of) in
+      ap columnCount (sym says) ∙ column-total (r .tree) ∙ ap (λ (f : Filled). f .columns) (r .fills)
+
+pub file-bad : (b : Bytes) (e : Error) → AreBytes b → refused e ≡ fillFile b blank → readSchemas b ≡ refused e
+file-bad b e bytes h = schemas-refused b blank bytes blank-long e (sym h)

@@ -15,7 +15,8 @@ use Rattle.column.specs.declared.column.Column.{Column}
 use Rattle.walk.specs.Data.{dataEnd, dataOpened, dataPassed}
 use Rattle.walk.proofs.Data.{data-closed, Walking, walking-start, walking-next, walking-refused, walking-end}
 use Rattle.quick.specs.Quick.{Says}
-use Rattle.section.specs.Ends.{turned}
+use Rattle.wire.proofs.Pieces.{ok-ok}
+use Rattle.section.specs.Ends.{EndIs, turned}
 
 -- Before turn i of so many, at p: the end is said; or nothing is done yet; or the walk stands before column i - 1.
 pub data AtTurn (u : Bool) (cs : List Column) (s : Bytes) (start p turns : ℕ) : (i : ℕ) → Type 0 where
@@ -66,3 +67,12 @@ module _ (u : Bool) (cs : List Column) (s : Bytes) (start at : ℕ) {r : Read �
   turned-later {i = suc i} n e h =
       let z : suc i - 1 ≡ i = omega arith in
       h ∙ ap (λ (j : ℕ). dataPassed u cs s start j at) (e ∙ z)
+
+-- what the quick way says is the end
+pub end-said : (u : Bool) (cs : List Column) (s : Bytes) (start : ℕ) {r : ℕ} → Says (dataEnd u cs s start) r → (r ≡ 0 → ⊥) → EndIs u cs s start r
+end-said u cs s start (inl z) n e q = absurd (n z)
+end-said u cs s start (inr x) n e q = ok-ok (sym x ∙ q)
+
+pub said-end : {r : Read ℕ} {e : ℕ} → Says r e → (e ≡ 0 → ⊥) → r ≡ ok e
+said-end (inl z) n = absurd (n z)
+said-end (inr x) n = x

@@ -13,25 +13,27 @@ use Rattle.grammar.specs.Reader.{section}
 use Rattle.section.specs.Table.{rowNumbers, rowCount, toldRows}
 use Rattle.shapes.specs.Shapes.{Sound}
 use Rattle.shapes.specs.Masks.{Shaped}
-use Rattle.section.specs.Sizes.{NotedOr0, Accepted}
+use Rattle.quick.specs.Quick.{RowStep}
+use Rattle.section.specs.Sizes.{NotedSome}
 
--- What a pass is given: a table of slots, what was made of it, and a section that is not over the limit.
-pub record Ready (slots shapes : List ℕ) (n : ℕ) (s : Bytes) : Type 0 where
+-- What a pass is given: a table of slots, what was made of it, a section that is not over the limit, and the step from parent to parent, or 0.
+pub record Ready (slots shapes : List ℕ) (n : ℕ) (s : Bytes) (step : ℕ) : Type 0 where
   pub sound : Sound slots n
   pub shaped : Shaped slots shapes n
   pub sized : length s ≤ 16777216
+  pub steps : RowStep shapes step
+  pub short : step ≤ 65536
 
 -- a table with rows laid into it, the first as row i; a row that does not fit leaves it
 unfoldable pub laidFrom : ℕ → List Row → List ℕ → List ℕ
 laidFrom i [] table = table
 laidFrom i (r ∷ rs) table = laidFrom (i + 1) rs (put table (4 * i) (rowNumbers r))
 
--- A pass answers the rows or the first error, and where it is no error lays the rows into the table and notes the sizes of all elements, or 0.
-pub record Scanned (S : List Schema) (s : Bytes) (entry exit sizes : List ℕ) (answer : RowsRead) : Type 0 where
+-- The pass that checks answers how many rows or the first error, and where it is no error notes sizes.
+pub record Scanned (S : List Schema) (s : Bytes) (step : ℕ) (sizes : List ℕ) (answer : RowsRead) : Type 0 where
   pub answers : toldRows answer ≡ rowCount (section S s)
-  pub lays : (rows : List Row) → section S s ≡ ok rows → exit ≡ laidFrom 0 rows entry
-  pub notes : (rows : List Row) → section S s ≡ ok rows → NotedOr0 S s sizes
+  pub notes : (rows : List Row) → section S s ≡ ok rows → NotedSome step S s sizes
 
 -- the rows of a section that was accepted are laid into the table
-abbrev pub Filled : (s : Bytes) (sizes entry exit : List ℕ) → Type 0
-Filled s sizes entry exit = (a : Accepted s sizes) → exit ≡ laidFrom 0 (a .rows) entry
+abbrev pub Filled : List Schema → (s : Bytes) (entry exit : List ℕ) → Type 0
+Filled S s entry exit = (rows : List Row) → section S s ≡ ok rows → exit ≡ laidFrom 0 rows entry

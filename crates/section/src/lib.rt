@@ -3,7 +3,10 @@
 
 mod children;
 mod ends;
+mod fill;
 mod heads;
 mod notes;
 pub mod read;
+mod runs;
+mod said;
 mod table;

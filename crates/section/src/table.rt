@@ -1,4 +1,4 @@
-// The table of rows: one row of it, and all rows of a section that was accepted, from size to size.
+// The table of rows: one row of it.
 ghost use mathlib.Core.Path.{_≡_};
 ghost use Prim.Native.Nat.{_+_, _*_, _≤_, _<_};
 ghost use lib.ListN.{length};
@@ -8,8 +8,7 @@ ghost use Rattle.wire.specs.Output.{put};
 ghost use Rattle.grammar.specs.Grammar.{entry};
 ghost use Rattle.grammar.specs.Reader.{idAt};
 ghost use Rattle.section.specs.Table.{rowNumbers, SmallRow};
-ghost use Rattle.section.specs.Sizes.{EntryAt, NotedThere, NotedIs, Accepted};
-ghost use Rattle.section.specs.Scan.{Filled};
+ghost use Rattle.section.specs.Sizes.{EntryAt};
 use wire::integer::IntRead;
 use wire::integer::u32_at;
 use wire::integer::wide;
@@ -37,7 +36,7 @@ pub(crate) fn put_row(
 }
 
 // The four bytes behind the one at `at` as a number; 0 where they are not whole.
-fn id_behind(section: &[u8], at: usize) -> usize
+pub(crate) fn id_behind(section: &[u8], at: usize) -> usize
     requires { ⌜ at ≤ 16777216 ⌝ }
     ensures { λ r. ⌜ (r < 4294967296) × (at + 5 ≤ length (now (section .entry)) → r ≡ idAt (now (section .entry)) at) ⌝ }
 {
@@ -66,7 +65,7 @@ pub struct Entry {
 }
 
 // The entry that the element at `at` makes or closes, where the data of the row before start at `origin`. No branch depends on which it is.
-fn entry_at(section: &[u8], at: usize, origin: usize) -> Entry
+pub(crate) fn entry_at(section: &[u8], at: usize, origin: usize) -> Entry
     requires { ⌜ (at < length (now section)) × (origin ≤ length (now section)) × (length (now section) ≤ 16777216) ⌝ }
     ensures { λ r. ⌜ EntryAt (now (section .entry)) at origin r ⌝ }
 {
@@ -82,50 +81,5 @@ fn entry_at(section: &[u8], at: usize, origin: usize) -> Entry
         id,
         original,
         update,
-    }
-}
-
-// A size that was noted, and where the next one is.
-pub struct Size {
-    pub bytes: usize,
-    pub next: usize,
-}
-
-// The size that is noted at `i`.
-fn noted_at(sizes: &[u8], i: usize) -> Size
-    requires { ⌜ NotedThere (now sizes) i × (length (now sizes) ≤ 16777216) ⌝ }
-    ensures { λ r. ⌜ NotedIs (now (sizes .entry)) i r ⌝ }
-{
-    let size = wide(sizes[i]);
-    if size < 255 {
-        return Size {
-            bytes: size,
-            next: i + 1,
-        };
-    }
-    let long = 256 * wide(sizes[i + 1]) + wide(sizes[i + 2]);
-    Size {
-        bytes: long,
-        next: i + 3,
-    }
-}
-
-// Fills the table with the rows of a section that was accepted, from size to size.
-pub(crate) fn fill<'a>(section: &'a [u8], sizes: &'a [u8], table: &mut [u32])
-    requires { ⌜ Accepted (now section) (now sizes) × (length (now section) ≤ 16777216) × (length (now sizes) ≤ 16777216) ⌝ }
-    ensures { λ r. ⌜ Filled (now (section .entry)) (now (sizes .entry)) (now (table .entry)) (now (table .exit)) ⌝ }
-{
-    let mut at = 0;
-    let mut rows = 0;
-    let mut origin = 0;
-    let mut i = 0;
-    while section[at] != 0x0F {
-        let row = entry_at(section, at, origin);
-        let size = noted_at(sizes, i);
-        rows += 1 - row.kind / 3;
-        put_row(table, rows - 1, row.kind, row.id, row.original, row.update);
-        origin = row.original;
-        at += size.bytes;
-        i = size.next;
     }
 }
