@@ -4,14 +4,13 @@ use Prim.Native.Nat.{ℕ, _≤_}
 use mathlib.Core.Path.{_≡_}
 use mathlib.Core.List.{List}
 use lib.ListN.{length, replicate}
-use Rattle.wire.specs.Read.{Bytes, Read, ok, bad, refused}
+use Rattle.wire.specs.Read.{Bytes, Read, ok, refused}
 use Rattle.schema.specs.declared.reader.Place.{Place}
 use Rattle.schema.specs.declared.reader.PlaceRead.{PlaceRead}
 use Rattle.schema.specs.declared.reader.PlaceRead.the-variants.{Read as read, Refused}
-use Rattle.schema.specs.declared.reader.FileTable.{FileTable}
 use Rattle.tree.specs.Tree.{mostFileColumns}
 use Rattle.tree.specs.Table.{tableSize}
-use Rattle.tree.specs.Filling.{Filled, filled, fillFile}
+use Rattle.tree.specs.Filling.{Filled, filled}
 
 -- a place with its table
 abbrev pub placed : Place → List ℕ → Filled
@@ -25,16 +24,6 @@ toldPlace (Refused e) table = refused e
 -- a table with nothing in it
 abbrev pub blank : List ℕ
 blank = replicate tableSize 0
-
--- the table of a file: zeros beside an error
-abbrev pub tableOf : Read Filled → List ℕ
-tableOf (ok f) = f .table
-tableOf (bad code offset about) = blank
-
--- what the code promises of a whole file and its table by value
-pub record Tabled (b : Bytes) (r : FileTable) : Type 0 where
-  pub answers : toldPlace (r .read) (r .table) ≡ fillFile b blank
-  pub holds : r .table ≡ tableOf (fillFile b blank)
 
 -- Inner.
 

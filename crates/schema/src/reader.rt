@@ -6,7 +6,7 @@ ghost use Rattle.tree.specs.Numbers.{numberLimit};
 ghost use Rattle.tree.specs.Tree.{member};
 ghost use Rattle.tree.specs.Table.{idsIn, packed, block};
 ghost use Rattle.tree.specs.Filling.{fillColumn, fillSchema, fillFile};
-ghost use Rattle.schema.specs.Told.{placed, toldPlace, Ready, Told, Tabled};
+ghost use Rattle.schema.specs.Told.{placed, toldPlace, Ready, Told};
 use crate::MOST_DEPTH;
 use crate::MOST_FILE_COLUMNS;
 use crate::runs::read_columns;
@@ -32,12 +32,6 @@ pub struct Place {
 pub enum PlaceRead {
     Read(Place),
     Refused(Error),
-}
-
-// A file that was read, and the table that it fills; a table of zeros where it was refused.
-pub struct FileTable {
-    pub read: PlaceRead,
-    pub table: [u64; 512],
 }
 
 // Whether a nested schema has this id, where so many schemas have a number.
@@ -213,19 +207,4 @@ pub fn read_file(file: &[u8], table: &mut [u64; 512]) -> PlaceRead
             PlaceRead::Read(p)
         }
     }
-}
-
-// A whole file, with the table by value.
-pub fn read_table(file: &[u8]) -> FileTable
-    ensures { λ r. ⌜ Tabled (now (file .entry)) r ⌝ }
-{
-    let mut table = [0u64; 512];
-    let read = read_file(file, &mut table);
-    match read {
-        PlaceRead::Refused(_) => {
-            table = [0u64; 512];
-        }
-        PlaceRead::Read(_) => {}
-    }
-    FileTable { read, table }
 }

@@ -8,7 +8,7 @@ use mathlib.Core.Option.{Option, none, some}
 use native.Mathlib.Omega.{arith}
 use lib.ListN.{length, getD, drop}
 use lib.Dec.{eqb, leb}
-use borrow.Author.Tests.{eqb-true, eq-eqb, ne-eqb, leb-true}
+use borrow.Author.Tests.{eqb-true, eq-eqb, ne-eqb, leb-true, leb-false}
 use Rattle.wire.specs.declared.error.Input.{Input}
 use Rattle.wire.specs.declared.error.Input.the-variants as input
 use Rattle.wire.specs.Read.{Bytes, AreBytes, cut, Read, ok, bad, _>>=_, pick, check, whole}
@@ -243,3 +243,11 @@ module _ (slots : List ℕ) (n : ℕ) (s : Bytes) (at : ℕ) (h : at + 5 ≤ len
       let f : follows (beforeIn slots child) (idAt s at) ≡ true = follows-child slots child (idAt s at) p ∙ eq-eqb _ _ (i ∙ e) in
       head-change (schemasIn 0 n slots) s (beforeIn slots child) at (omega arith) t
       ∙ change-followed slots n child s at sound l (paired-found s (beforeIn slots child) at five f)
+
+-- The id behind a token, or 0.
+pub id-or-zero : (s : Bytes) (at : ℕ) {r : ℕ} → AreBytes s → r ≡ pick (leb (at + 1 + 4) (length s)) (idAt s at) 0 → (r < 4294967296) × (at + 5 ≤ length s → r ≡ idAt s at)
+id-or-zero s at {r} o e = go (leb (at + 1 + 4) (length s)) refl e
+  where
+    go : (b : Bool) → leb (at + 1 + 4) (length s) ≡ b → r ≡ pick b (idAt s at) 0 → (r < 4294967296) × (at + 5 ≤ length s → r ≡ idAt s at)
+    go true t e = (rw e (id-small s at o (omega (arith, leb-true (at + 1 + 4) (length s) t))), λ h. e)
+    go false t e = (omega (arith, e), λ h. absurd (omega (arith, h, leb-false (at + 1 + 4) (length s) t)))

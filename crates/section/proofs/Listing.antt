@@ -22,7 +22,7 @@ use Rattle.grammar.specs.Grammar.{Row}
 use Rattle.grammar.specs.Reader.{section}
 use Rattle.section.specs.Table.{tableNumbers, rowsFitting, rowsRead, tableAfter, rowCount, toldRows, Listed}
 use Rattle.section.specs.Scan.{laidFrom}
-use Rattle.section.proofs.Laid.{laid-all, held-laid}
+use Rattle.section.proofs.Laid.{laid-all}
 
 -- a number of rows is told of rows
 pub rows-told : (r : Read (List Row)) (n : ℕ) → ok n ≡ rowCount r → (rs : List Row) × (r ≡ ok rs) × (n ≡ length rs)
@@ -95,14 +95,6 @@ module _ (S : List Schema) (s : Bytes) (table : List ℕ) where
     pub fitting-count : (exit : List ℕ) (n : ℕ) → n ≡ length rs → length rs ≤ length table / 4 → exit ≡ laidFrom 0 rs table →
         Listed (rowsFitting S s (length table)) table exit (read.Rows n)
     fitting-count exit n z h l = fitting-rows exit (read.Rows n) h (ap (λ (m : ℕ). ok m) z ∙ ap rowCount (sym q)) l
-
-    -- the same of rows that were held, and copied into the table
-    pub fitting-held :
-        (held exit : List ℕ) (n : ℕ) → n ≡ length rs → 4 * n ≤ length held → length rs ≤ length table / 4 →
-        exit ≡ put table 0 (take (4 * n) (laidFrom 0 rs held)) → Listed (rowsFitting S s (length table)) table exit (read.Rows n)
-    fitting-held held exit n z k h e =
-        fitting-count exit n z h
-        (e ∙ ap (λ (m : ℕ). put table 0 (take (4 * m) (laidFrom 0 rs held))) z ∙ held-laid rs held table (omega arith) (omega arith))
 
 -- the checks in front of a section
 module _ (file s : Bytes) (numbers : ℕ) where

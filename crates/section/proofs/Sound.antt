@@ -5,7 +5,7 @@ use mathlib.Core.Path.{_≡_, sym, ap, _∙_}
 use mathlib.Core.List.{List, []}
 use mathlib.Core.Option.{some}
 use native.Mathlib.Omega.{arith}
-use lib.ListN.{length, getD}
+use lib.ListN.{length, getD, length-replicate}
 use Rattle.wire.specs.declared.error.Error.{Error}
 use Rattle.wire.specs.Read.{Bytes, AreBytes, Read, ok, refused, _>>=_}
 use Rattle.wire.proofs.Pieces.{bind-ok, ok-ok}
@@ -21,8 +21,11 @@ use Rattle.tree.proofs.Children.{child-only}
 use Rattle.tree.proofs.TableSays.{schemas-in-length, schemas-in-at}
 use Rattle.tree.proofs.Theorem.{file-of-iff}
 use Rattle.tree.proofs.Filled.{schemas-refused, schemas-read, file-read, slots-of}
-use Rattle.schema.proofs.Tabled.{blank-long}
+use Rattle.tree.specs.Table.{tableSize}
 use Rattle.shapes.specs.Shapes.{Sound}
+
+blank-long : length blank ≡ tableSize
+blank-long = length-replicate {A = ℕ} tableSize 0
 
 -- A table that says the schemas of a well-formed file.
 module _ (t : Tree) (good : WellFormed t) (n : ℕ) (slots : List ℕ) (says : schemasOf t ≡ schemasIn 0 n slots) where

@@ -9,7 +9,6 @@ ghost use Rattle.shapes.specs.Masks.{Shaped};
 ghost use Rattle.section.specs.Table.{rowsFitting, rowsRead, Listed};
 ghost use Rattle.section.specs.Sizes.{Blank};
 ghost use Rattle.section.specs.Scan.{Ready, Scanned};
-ghost use Rattle.section.specs.declared.read.RowsRead.the-variants as read;
 use crate::ends::turn;
 use crate::ends::turns_of;
 use crate::fill::fill;
@@ -128,18 +127,6 @@ fn scan(
     answer
 }
 
-// The same error, about an input of a call with several.
-fn refuse(e: Error, name: Input) -> RowsRead
-    ensures { λ r. ⌜ r ≡ read.Refused (record { kind = e .kind; offset = e .offset; input = name }) ⌝ }
-{
-    let kind = e.kind;
-    RowsRead::Refused(Error {
-        kind,
-        offset: e.offset,
-        input: name,
-    })
-}
-
 // Lists a section by the shapes of its schemas: a pass that checks it, and where the table has room for all rows, one that fills it.
 fn list_noting(
     slots: &[u64; 512],
@@ -154,7 +141,7 @@ fn list_noting(
 {
     let step = row_step(shapes);
     match scan(slots, shapes, schemas, section, step, sizes) {
-        RowsRead::Refused(e) => refuse(e, Input::Section),
+        RowsRead::Refused(e) => RowsRead::Refused(e.about(Input::Section)),
         RowsRead::Rows(n) => {
             if table.len() / 4 < n {
                 return RowsRead::Refused(Error {
@@ -214,22 +201,14 @@ pub fn read_section(file: &[u8], section: &[u8], table: &mut [u32]) -> RowsRead
     ensures { λ r. ⌜ Listed (rowsRead (now (file .entry)) (now (section .entry)) (length (now (table .entry)))) (now (table .entry)) (now (table .exit)) r ⌝ }
 {
     if file.len() > LIMIT {
-        return RowsRead::Refused(Error {
-            kind: ErrorKind::TooLarge,
-            offset: 0,
-            input: Input::Schema,
-        });
+        return RowsRead::Refused(Error::at_start(ErrorKind::TooLarge, Input::Schema));
     }
     if section.len() > LIMIT {
-        return RowsRead::Refused(Error {
-            kind: ErrorKind::TooLarge,
-            offset: 0,
-            input: Input::Section,
-        });
+        return RowsRead::Refused(Error::at_start(ErrorKind::TooLarge, Input::Section));
     }
     let mut slots = [0u64; 512];
     match read_file(file, &mut slots) {
-        PlaceRead::Refused(e) => refuse(e, Input::Schema),
+        PlaceRead::Refused(e) => RowsRead::Refused(e.about(Input::Schema)),
         PlaceRead::Read(p) => list_rows(&slots, p.schemas, p.columns, section, table),
     }
 }

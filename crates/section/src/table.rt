@@ -9,8 +9,7 @@ ghost use Rattle.grammar.specs.Grammar.{entry};
 ghost use Rattle.grammar.specs.Reader.{idAt};
 ghost use Rattle.section.specs.Table.{rowNumbers, SmallRow};
 ghost use Rattle.section.specs.Sizes.{EntryAt};
-use wire::integer::IntRead;
-use wire::integer::u32_at;
+use wire::integer::u32_or_zero;
 use wire::integer::wide;
 
 // Writes row `i` into a table, where it has room for that row.
@@ -40,10 +39,7 @@ pub(crate) fn id_behind(section: &[u8], at: usize) -> usize
     requires { ⌜ at ≤ 16777216 ⌝ }
     ensures { λ r. ⌜ (r < 4294967296) × (at + 5 ≤ length (now (section .entry)) → r ≡ idAt (now (section .entry)) at) ⌝ }
 {
-    match u32_at(section, at + 1) {
-        IntRead::Refused(e) => 0,
-        IntRead::Int(id) => id,
-    }
+    u32_or_zero(section, at + 1)
 }
 
 // The first of two numbers, or the second where `second` is 1.

@@ -44,7 +44,7 @@ returns-2 c =
     let args = c .before .before .before .before .before .before .before .before .before .before .before .before .before .args in
     let scan = c .before .before .before .before .before .before .scan in
     let e = c .before .before .e in
-    rw (c .refuse .ensures) (fitting-refused (schemasIn 0 (args .schemas) (args .slots .now)) (args .section .now) (args .table .now) (e .given .0 .0) (error-told (section (schemasIn 0 (args .schemas) (args .slots .now)) (args .section .now)) (e .given .0 .0) (ap toldRows (sym (e .given .1)) ∙ scan .ensures .0 .answers)))
+    rw (c .about .ensures) (fitting-refused (schemasIn 0 (args .schemas) (args .slots .now)) (args .section .now) (args .table .now) (e .given .0 .0) (error-told (section (schemasIn 0 (args .schemas) (args .slots .now)) (args .section .now)) (e .given .0 .0) (ap toldRows (sym (e .given .1)) ∙ scan .ensures .0 .answers)))
 
 same-length-4 : tie.Need-same-length-4
 same-length-4 c =

@@ -13,10 +13,12 @@ use Rattle.section.proofs.read.read_section.Statement.{statement}
 use Rattle.section.proofs.read.read_section.Tie as tie
 
 returns : tie.Need-returns
-returns c = listed-error _ _ _ (file-large _ _ _ (c .if1 .taken))
+returns c = rw (c .at-start .ensures) (listed-error _ _ _ (file-large _ _ _ (c .before .if1 .taken)))
 
 returns-2 : tie.Need-returns-2
-returns-2 c = listed-error _ _ _ (section-large _ _ _ (c .before .if1 .left) (c .if2 .taken))
+returns-2 c =
+    let if1 = c .before .before .if1 in
+    rw (c .at-start2 .ensures) (listed-error _ _ _ (section-large _ _ _ (if1 .left) (c .before .if2 .taken)))
 
 list-rows-requires : tie.Need-list-rows-requires
 list-rows-requires c κs =
@@ -35,7 +37,7 @@ returns-3 c =
     let if2 = c .before .before .before .before .before .before .if2 in
     let read-file = c .before .before .before .before .read-file in
     let e = c .before .before .e in
-    rw (c .refuse .ensures) (listed-error _ _ _ (file-refused _ _ _ (if1 .left) (if2 .left) (e .given .0 .0) (file-bad (args .file .now) (e .given .0 .0) (λ i. shared-slice-known .given i .fits) (ap (λ (x : PlaceRead). toldPlace x (read-file .last .1 .0)) (sym (e .given .1)) ∙ read-file .ensures))))
+    rw (c .about .ensures) (listed-error _ _ _ (file-refused _ _ _ (if1 .left) (if2 .left) (e .given .0 .0) (file-bad (args .file .now) (e .given .0 .0) (λ i. shared-slice-known .given i .fits) (ap (λ (x : PlaceRead). toldPlace x (read-file .last .1 .0)) (sym (e .given .1)) ∙ read-file .ensures))))
 
 same-length : tie.Need-same-length
 same-length c =
@@ -57,5 +59,5 @@ pub read-section-spec : {M : Type 1} → statement M
 read-section-spec =
     tie.close
     (tie.spec
-    returns returns-2 (λ c κs. search needs) (λ c. search needs) (λ c κs. search needs) (λ c. search needs) list-rows-requires returns-3
-    same-length returns-4)
+    (λ c κs. search needs) returns (λ c κs. search needs) returns-2 (λ c κs. search needs) (λ c. search needs) (λ c κs. search needs)
+    (λ c. search needs) list-rows-requires returns-3 same-length returns-4)
