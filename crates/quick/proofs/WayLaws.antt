@@ -11,7 +11,7 @@ use lib.Dec.{ltb, eqb}
 use lib.Bits.{bitAnd, bitOr, bitXor, and-zero-r}
 use lib.ListN.{length, getD, drop}
 use lib.Pow.{shr-shr}
-use borrow.Author.Tests.{lt-ltb, ltb-true}
+use borrow.Author.Tests.{eqb-true, lt-ltb, ltb-true}
 use Rattle.wire.specs.Bits.{mapBytes, bitSet}
 use Rattle.maps.specs.Maps.{mapBits, topBit}
 use Rattle.wire.specs.Read.{Bytes, AreBytes, ok, pick}
@@ -249,6 +249,12 @@ none-marked cs e i l t =
         go : (b : Bool) → pick b (isNullable c) false ≡ true → isNullable c ≡ true
         go true t = t
         go false t = let x : _≡_ {A = ℕ} 0 1 = cc in absurd (omega arith)
+
+-- what the test of a form without stops and map tells
+pub rigid-both : (form : ℕ) {r : Bool} → r ≡ eqb (stopsIn form + mapIn form) 0 → r ≡ true → (stopsIn form ≡ 0) × (mapIn form ≡ 0)
+rigid-both form told e =
+    let z : stopsIn form + mapIn form ≡ 0 = eqb-true (stopsIn form + mapIn form) 0 (sym told ∙ e) in
+    (omega (arith, z), omega (arith, z))
 
 -- where all original rows have one size, that is where they end
 pub rigid-says :

@@ -1,7 +1,7 @@
 // A form in one number: what row data of a schema are like.
 ghost use mathlib.Core.Path.{_≡_};
-ghost use mathlib.Core.Bool.{true};
-ghost use Prim.Native.Nat.{_<_};
+ghost use Prim.Native.Nat.{_+_, _<_};
+ghost use lib.Dec.{eqb};
 ghost use Rattle.shapes.specs.Shapes.{formOf, firstIn, stopsIn, mapIn, tailIn, alwaysIn};
 
 // The places of a form's parts behind the first word; that word has the lowest 16 bits.
@@ -58,7 +58,7 @@ pub fn always_in(form: usize) -> usize
 
 // Whether there is no stop and no map, so that all data have one size.
 pub fn is_rigid(form: usize) -> bool
-    ensures { λ r. ⌜ (r ≡ true → (stopsIn form ≡ 0) × (mapIn form ≡ 0)) ⌝ }
+    ensures { λ r. ⌜ r ≡ eqb (stopsIn form + mapIn form) 0 ⌝ }
 {
     form / STOPS % 65_536 == 0
 }

@@ -3,7 +3,9 @@
 use mathlib.Core.Path.{_≡_, refl}
 use mathlib.Core.Logic.{inl}
 use native.Mathlib.Omega.{arith}
-use Rattle.quick.proofs.WayLaws.{row-says, rigid-says}
+use Prim.Native.Nat.{_*_}
+use lib.ListN.{getD}
+use Rattle.quick.proofs.WayLaws.{row-says, rigid-both, rigid-says}
 use borrow.Author.Needs.{needs}
 use Rattle.quick.proofs.ends.quick_row.Statement.{statement}
 use Rattle.quick.proofs.ends.quick_row.Tie as tie
@@ -16,7 +18,7 @@ returns-2 c =
     let args = c .before .before .before .before .before .before .before .args in
     let shared-slice-known2 = c .before .before .before .before .before .shared-slice-known2 in
     let is-rigid = c .before .before .is-rigid in
-    let (n, z) = is-rigid .ensures (c .before .if2 .taken) in rigid-says (args .shapes .now) (args .k) (args .section .now) (args .start) (λ i. shared-slice-known2 .given i .fits) refl n z (c .rigid-end .ensures)
+    let (n, z) = rigid-both (getD (args .shapes .now) (8 * args .k) 0) (is-rigid .ensures) (c .before .if2 .taken) in rigid-says (args .shapes .now) (args .k) (args .section .now) (args .start) (λ i. shared-slice-known2 .given i .fits) refl n z (c .rigid-end .ensures)
 
 add-over : tie.Need-add-over
 add-over c =

@@ -2,7 +2,8 @@
 -- Assumes nothing.
 use mathlib.Core.Path.{refl}
 use native.Mathlib.Omega.{arith}
-use Rattle.quick.proofs.WayLaws.{step-says}
+use lib.ListN.{getD}
+use Rattle.quick.proofs.WayLaws.{rigid-both, step-says}
 use borrow.Author.Needs.{needs}
 use Rattle.quick.proofs.ends.row_step.Statement.{statement}
 use Rattle.quick.proofs.ends.row_step.Tie as tie
@@ -15,7 +16,7 @@ returns-2 c =
     let args = c .before .before .before .before .before .before .args in
     let is-rigid = c .before .before .is-rigid in
     let tail-in = c .tail-in in
-    let (n, z) = is-rigid .ensures (c .before .if2 .taken) in (step-says (args .shapes .now) refl n z (omega (arith, tail-in .ensures .0)), omega (arith, tail-in .ensures .1))
+    let (n, z) = rigid-both (getD (args .shapes .now) 0 0) (is-rigid .ensures) (c .before .if2 .taken) in (step-says (args .shapes .now) refl n z (omega (arith, tail-in .ensures .0)), omega (arith, tail-in .ensures .1))
 
 returns-3 : tie.Need-returns-3
 returns-3 c = (λ cs shape one. absurd (omega (arith, one)), omega arith)
