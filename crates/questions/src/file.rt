@@ -5,12 +5,13 @@ ghost use Prim.Native.Nat.{_+_, _≤_, _<_};
 ghost use mathlib.Core.List.{map};
 ghost use Rattle.column.specs.Layout.{layout};
 ghost use lib.ListN.{length};
-ghost use Rattle.tree.specs.Schemas.{asColumn, childNumber, or0};
+ghost use Rattle.tree.specs.Schemas.{asColumn};
 ghost use Rattle.tree.specs.Table.{tableSize, entriesIn, schemasIn};
 ghost use Rattle.questions.specs.Questions.{countsOf, toldCounts, Opening, columnCountOf, toldSize, Columned, Slotted, childOf, columnOf, toldColumn};
 use column::columns::Columns;
 use column::types::ColumnType;
 use schema::MOST_FILE_COLUMNS;
+use schema::children::child_number;
 use schema::columns::columns_in;
 use schema::columns::slots_in;
 use schema::flat::read_flat;
@@ -121,21 +122,6 @@ pub fn column_count(file: &[u8], number: usize) -> SizeRead
             schemas: _,
         } => SizeRead::Size(count),
     }
-}
-
-// The number of the schema with a child id, where a table has so many schemas; 0 where there is none.
-fn child_number(table: &[u64; 512], schemas: usize, id: u64) -> usize
-    requires { ⌜ (1 ≤ schemas) × (schemas ≤ 256) ⌝ }
-    ensures { λ r. ⌜ r ≡ or0 (childNumber (schemasIn 0 schemas (now (table .entry))) id) ⌝ }
-{
-    let mut i = 1;
-    while i < schemas {
-        if table[MOST_FILE_COLUMNS + i] / 4_294_967_296 == id {
-            return i;
-        }
-        i += 1;
-    }
-    0
 }
 
 // The number of the schema with a child id.

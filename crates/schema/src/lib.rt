@@ -1,6 +1,7 @@
 // Schema files (document 01's column sheets): the reader, and the table that it fills. What is asked of that table is in crate `questions`,
 // the writer in crate `numbers`.
 
+pub mod children;
 pub mod columns;
 pub mod flat;
 pub mod reader;

@@ -6,10 +6,10 @@ ghost use Rattle.shapes.specs.Shapes.{Sound};
 ghost use Rattle.section.specs.Heads.{beforeIn};
 ghost use Rattle.section.specs.Said.{SaidAt};
 use crate::children::find_child;
-use crate::children::id_in;
 use crate::table::id_behind;
 use quick::ends::quick_row;
 use quick::ends::quick_update;
+use schema::children::id_in;
 use wire::bytes::lacks;
 
 // An element with row data: the kind of its row, the number of its schema, its end. An end of 0 says nothing.
@@ -67,7 +67,7 @@ pub(crate) fn element_said(
     }
     if token == 0x8A {
         if 0 < child {
-            if id_in(slots[256 + child]) == id {
+            if id_in(slots[256 + child]) == id as u64 {
                 let end = quick_update(shapes, child, section, at + 5);
                 return Said {
                     kind: 3,

@@ -15,18 +15,13 @@ use borrow.Author.Needs.{needs}
 use Rattle.questions.proofs.file.child_schema.Statement.{statement}
 use Rattle.questions.proofs.file.child_schema.Tie as tie
 
-child-number-requires : tie.Need-child-number-requires
-child-number-requires c κs =
-    let exit : List ℕ = c .before .before .before .before .read-file .last .1 .0 in
-    let h : fillFile (c .before .before .before .before .before .before .before .args .file .now) (replicate 512 0) ≡ ok (placed (c .before .before .p .given .0 .0) exit) = sym (c .before .before .before .before .read-file .ensures) ∙ ap (λ (r : PlaceRead). toldPlace r exit) (c .before .before .p .given .1) in
-    some-schema (c .before .before .before .before .before .before .before .args .file .now) (replicate 512 0) (λ i. c .before .before .before .before .before .before .shared-slice-known .given i .fits) (length-replicate {A = ℕ} 512 0) _ h
-
 returns : tie.Need-returns
 returns c =
     let exit : List ℕ = c .before .before .before .before .before .before .before .read-file .last .1 .0 in
     let h : fillFile (c .before .before .before .before .before .before .before .before .before .before .args .file .now) (replicate 512 0) ≡ ok (placed (c .before .before .before .before .before .p .given .0 .0) exit) = sym (c .before .before .before .before .before .before .before .read-file .ensures) ∙ ap (λ (r : PlaceRead). toldPlace r exit) (c .before .before .before .before .before .p .given .1) in
     let s = schemas-read (c .before .before .before .before .before .before .before .before .before .before .args .file .now) (replicate 512 0) (λ i. c .before .before .before .before .before .before .before .before .before .shared-slice-known .given i .fits) (length-replicate {A = ℕ} 512 0) _ h in
-    ap refused (c .at-start .ensures) ∙ sym (child-none-of (c .before .before .before .before .before .before .before .before .before .before .args .file .now) (c .before .before .before .before .before .before .before .before .before .before .args .id) _ s (sym (c .before .before .child-number .ensures) ∙ c .before .if1 .taken))
+    let k = some-schema (c .before .before .before .before .before .before .before .before .before .before .args .file .now) (replicate 512 0) (λ i. c .before .before .before .before .before .before .before .before .before .shared-slice-known .given i .fits) (length-replicate {A = ℕ} 512 0) _ h in
+    ap refused (c .at-start .ensures) ∙ sym (child-none-of (c .before .before .before .before .before .before .before .before .before .before .args .file .now) (c .before .before .before .before .before .before .before .before .before .before .args .id) _ s (sym (c .before .before .child-number .ensures (k .0) (k .1)) ∙ c .before .if1 .taken))
 
 returns-2 : tie.Need-returns-2
 returns-2 c =
@@ -40,10 +35,11 @@ returns-3 c =
     let exit : List ℕ = c .before .before .before .before .before .before .read-file .last .1 .0 in
     let h : fillFile (c .before .before .before .before .before .before .before .before .before .args .file .now) (replicate 512 0) ≡ ok (placed (c .before .before .before .before .p .given .0 .0) exit) = sym (c .before .before .before .before .before .before .read-file .ensures) ∙ ap (λ (r : PlaceRead). toldPlace r exit) (c .before .before .before .before .p .given .1) in
     let s = schemas-read (c .before .before .before .before .before .before .before .before .before .args .file .now) (replicate 512 0) (λ i. c .before .before .before .before .before .before .before .before .shared-slice-known .given i .fits) (length-replicate {A = ℕ} 512 0) _ h in
-    sym (child-some-of (c .before .before .before .before .before .before .before .before .before .args .file .now) (c .before .before .before .before .before .before .before .before .before .args .id) _ _ s (c .before .child-number .ensures) (c .if1 .left))
+    let k = some-schema (c .before .before .before .before .before .before .before .before .before .args .file .now) (replicate 512 0) (λ i. c .before .before .before .before .before .before .before .before .shared-slice-known .given i .fits) (length-replicate {A = ℕ} 512 0) _ h in
+    sym (child-some-of (c .before .before .before .before .before .before .before .before .before .args .file .now) (c .before .before .before .before .before .before .before .before .before .args .id) _ _ s (c .before .child-number .ensures (k .0) (k .1)) (c .if1 .left))
 
 pub child-schema-spec : {M : Type 1} → statement M
 child-schema-spec =
     tie.close
     (tie.spec
-    (λ c κs. search needs) (λ c. search needs) (λ c κs. search needs) (λ c. search needs) child-number-requires (λ c κs. search needs) returns returns-2 returns-3)
+    (λ c κs. search needs) (λ c. search needs) (λ c κs. search needs) (λ c. search needs) (λ c κs. search needs) (λ c κs. search needs) returns returns-2 returns-3)

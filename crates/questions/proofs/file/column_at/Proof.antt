@@ -14,11 +14,10 @@ use Rattle.questions.proofs.file.column_at.Tie as tie
 returns : tie.Need-returns
 returns c = ap refused (c .at-start .ensures) ∙ sym (column-none (c .before .before .before .before .before .before .before .before .args .file .now) (c .before .before .before .before .before .before .before .before .args .number) (c .before .before .before .before .before .before .before .before .args .column) _ _ _ (c .before .before .before .before .before .open-schema .last .1 .1 .0) (sym (c .before .before .before .before .before .open-schema .ensures .answers) ∙ ap (λ (r : Opened). toldOpened r (c .before .before .before .before .before .open-schema .last .1 .1 .0)) (c .before .before .before .start .given .1)) (c .before .if1 .taken))
 
-child-number-requires : tie.Need-child-number-requires
-child-number-requires c κs = let s : Slots (c .before .before .before .before .start .given .0 .0) (c .before .before .before .before .start .given .0 .1 .0) (c .before .before .before .before .start .given .0 .1 .1 .0) = rw (c .before .before .before .before .start .given .1) at (c .before .before .before .before .before .before .open-schema .ensures .slots) in (s .some, s .all)
-
 returns-2 : tie.Need-returns-2
-returns-2 c = sym (column-chapter (c .before .before .before .before .before .before .before .before .before .before .args .file .now) (c .before .before .before .before .before .before .before .before .before .before .args .number) (c .before .before .before .before .before .before .before .before .before .before .args .column) _ _ _ (c .before .before .before .before .before .before .before .open-schema .last .1 .1 .0) (sym (c .before .before .before .before .before .before .before .open-schema .ensures .answers) ∙ ap (λ (r : Opened). toldOpened r (c .before .before .before .before .before .before .before .open-schema .last .1 .1 .0)) (c .before .before .before .before .before .start .given .1)) (c .before .before .before .if1 .left) _ (c .before .before .if2 .taken) (c .child-number .ensures))
+returns-2 c =
+    let s : Slots (c .before .before .before .before .before .start .given .0 .0) (c .before .before .before .before .before .start .given .0 .1 .0) (c .before .before .before .before .before .start .given .0 .1 .1 .0) = rw (c .before .before .before .before .before .start .given .1) at (c .before .before .before .before .before .before .before .open-schema .ensures .slots) in
+    sym (column-chapter (c .before .before .before .before .before .before .before .before .before .before .args .file .now) (c .before .before .before .before .before .before .before .before .before .before .args .number) (c .before .before .before .before .before .before .before .before .before .before .args .column) _ _ _ (c .before .before .before .before .before .before .before .open-schema .last .1 .1 .0) (sym (c .before .before .before .before .before .before .before .open-schema .ensures .answers) ∙ ap (λ (r : Opened). toldOpened r (c .before .before .before .before .before .before .before .open-schema .last .1 .1 .0)) (c .before .before .before .before .before .start .given .1)) (c .before .before .before .if1 .left) _ (c .before .before .if2 .taken) (c .child-number .ensures (s .some) (s .all)))
 
 returns-3 : tie.Need-returns-3
 unfolding columnOf
@@ -39,7 +38,7 @@ column-at-spec =
     (λ c. let s : Slots (c .before .before .start .given .0 .0) (c .before .before .start .given .0 .1 .0) (c .before .before .start .given .0 .1 .1 .0) = rw (c .before .before .start .given .1) at (c .before .before .before .before .open-schema .ensures .slots) in omega (arith, s .inside, c .if1 .left))
     (λ c. let s : Slots (c .before .before .start .given .0 .0) (c .before .before .start .given .0 .1 .0) (c .before .before .start .given .0 .1 .1 .0) = rw (c .before .before .start .given .1) at (c .before .before .before .before .open-schema .ensures .slots) in omega (arith, s .inside, c .if1 .left))
     (λ c. search needs)
-    child-number-requires
+    (λ c κs. search needs)
     returns-2
     returns-3
     returns-4)
