@@ -23,7 +23,7 @@ enum {
     WIDE = 64,               /* columns of a wide schema */
     TEXT = 100,              /* the greatest length of its texts, in characters */
     ENTRIES = 3 * WIDE,      /* numbers of its entries */
-    ELEMENTS = 300000        /* more elements than a section's sizes are noted for */
+    ELEMENTS = 300000        /* parents of a long run */
 };
 
 static _Alignas(4096) unsigned char stack[STACK];
@@ -340,7 +340,7 @@ static void lay_datas(void)
     size_t start = laid_length;
     lay_many(0xFF, WIDE / 4);
     datas[data_count++] = since(start);
-    /* A section whose rows are held, and one of more, which is long enough that sizes are noted. */
+    /* A short section, and one that is long enough for the larger array of notes. */
     for (size_t parents = 1; parents <= 1000; parents *= 1000) {
         start = laid_length;
         lay_section(parents);

@@ -19,8 +19,8 @@
  *
  * Stack: measured on x86-64 by c/stack.c and rounded up; arguments are included, a KB has 1,024 bytes. Where the C library's
  * memcpy and memset are bound only when they are first called, that call takes some 3 KB more.
- *     adtg_read_section: at most 290 KB
- *     every other call: at most 10 KB
+ *     adtg_read_section: at most 92 KB
+ *     every other call: at most 11 KB
  */
 #ifndef ADTG_H
 #define ADTG_H

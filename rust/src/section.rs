@@ -42,7 +42,7 @@ pub struct Rows<'a> {
 /// Reads a whole row section into a table, which has room for one row in [`ROW_NUMBERS`] numbers.
 /// What lies behind the last row stays as it was; an error leaves the whole table. Without enough
 /// room the error is of the kind `Capacity`, and its offset says how many rows there are. The call
-/// takes about 290 KB of stack.
+/// takes up to 92 KB of stack.
 pub fn read_section<'a>(
     file: &[u8],
     section: &[u8],

@@ -129,7 +129,7 @@ pub fn soak(seed: u64, time: Duration, threads: usize) -> Totals {
     all.report()
 }
 
-/// Inputs around the size limit, and sections at the borders of what is noted of them.
+/// Inputs around the size limit, sections at the borders of what is noted of them, long runs.
 fn run_large(seed: u64, run: &mut Run) {
     run_oversized(run);
     sections::noted(&mut Random::new(seed), run);

@@ -43,14 +43,14 @@ const LONGEST: usize = 32_767;
 /// How many sections are made under one file.
 const SECTIONS: usize = 4;
 
-/// How many rows the archive holds on its way over a section.
+/// How many spans the archive holds on its way over a batch; long sections have about as many
+/// rows, or more.
 pub(super) const HELD: usize = 256;
 
-/// Sections over this many bytes have the sizes of their elements noted, by which rows that are
-/// not held are filled in.
+/// Sections over this many bytes have room for the sizes of more elements.
 const NOTED: usize = 16_384;
 
-/// The bytes in which sizes are noted.
+/// About how many parents a long run has: more than sizes can be noted.
 const NOTES: usize = 262_144;
 
 /// Sections under one file, each with a table, and at times with another file.
@@ -76,7 +76,7 @@ pub(super) fn read_case(random: &mut Random, run: &mut Run) {
     }
 }
 
-/// A section of about as many rows as the archive holds, at times damaged.
+/// A section of about as many rows as a batch holds spans, at times damaged.
 fn long_section(random: &mut Random, sound: &[u8], schemas: &SchemaFile) -> Vec<u8> {
     let mut section = Section::default();
     for _ in 0..random.between(HELD - 2, HELD + 3) {
@@ -90,7 +90,7 @@ fn long_section(random: &mut Random, sound: &[u8], schemas: &SchemaFile) -> Vec<
     section
 }
 
-/// A section whose sizes are noted, with more rows than are held, at times damaged.
+/// A section of over `NOTED` bytes, with more rows than a batch holds spans, at times damaged.
 fn noted_section(random: &mut Random, sound: &[u8], schemas: &SchemaFile) -> Vec<u8> {
     let mut section = Section::default();
     let least = random.between(HELD + 1, 2 * HELD);
@@ -174,8 +174,8 @@ fn sizes_file() -> Vec<u8> {
     ])
 }
 
-/// Sections with elements of the sizes at the borders of notes, and as many elements as can be
-/// noted, or a few more.
+/// Sections with elements of the sizes at the borders of notes, and long runs of parents without
+/// bytes.
 pub(super) fn noted(random: &mut Random, run: &mut Run) {
     let file = sizes_file();
     for round in 0..40 {
