@@ -50,8 +50,11 @@ pub(super) const HELD: usize = 256;
 /// Sections over this many bytes have room for the sizes of more elements.
 const NOTED: usize = 16_384;
 
-/// About how many parents a long run has: more than sizes can be noted.
-const NOTES: usize = 262_144;
+/// About how many sizes can be noted, of a short section and of a long one.
+const NOTES: [usize; 2] = [1_024, 65_536];
+
+/// How many parents runs have that take no bytes but their tokens.
+const RUNS: [usize; 4] = [1, 2, 1_025, 262_144];
 
 /// Sections under one file, each with a table, and at times with another file.
 pub(super) fn read_case(random: &mut Random, run: &mut Run) {
@@ -174,8 +177,8 @@ fn sizes_file() -> Vec<u8> {
     ])
 }
 
-/// Sections with elements of the sizes at the borders of notes, and long runs of parents without
-/// bytes.
+/// Sections with elements of the sizes at the borders of notes, with as many as can be noted, and
+/// runs of parents without bytes.
 pub(super) fn noted(random: &mut Random, run: &mut Run) {
     let file = sizes_file();
     for round in 0..40 {
@@ -188,13 +191,22 @@ pub(super) fn noted(random: &mut Random, run: &mut Run) {
         let before: Vec<u32> = (0..space).map(|_| random.bits() as u32).collect();
         read(&file, &section, &before, run);
     }
-    let chapter = generate::groups(&[1, CHAPTER.into(), 0, 7, 1, TEXT.into(), 0, 1]);
-    for rows in NOTES - 6..NOTES + 2 {
-        let mut tokens = vec![PARENT; rows];
-        tokens.push(END);
-        let before: Vec<u32> = (0..(ROW_NUMBERS * rows + 2) as u32).map(|at| !at).collect();
-        read(&chapter, &tokens, &before, run);
+    let nullable = generate::groups(&[1, TEXT.into(), 1, 1]);
+    for rows in NOTES.iter().flat_map(|notes| notes - 6..notes + 4) {
+        read_alike(&nullable, &[PARENT, 0], rows, run);
     }
+    let chapter = generate::groups(&[1, CHAPTER.into(), 0, 7, 1, TEXT.into(), 0, 1]);
+    for rows in RUNS {
+        read_alike(&chapter, &[PARENT], rows, run);
+    }
+}
+
+/// A section of so many rows that are all alike.
+fn read_alike(file: &[u8], row: &[u8], rows: usize, run: &mut Run) {
+    let mut section = row.repeat(rows);
+    section.push(END);
+    let before: Vec<u32> = (0..(ROW_NUMBERS * rows + 2) as u32).map(|at| !at).collect();
+    read(file, &section, &before, run);
 }
 
 /// A file that keeps the rules, at times one with many schemas.
