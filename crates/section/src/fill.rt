@@ -11,6 +11,7 @@ use crate::children::find_child;
 use crate::ends::quick_end;
 use crate::ends::turn;
 use crate::ends::turns_of;
+use crate::heads::DONE;
 use crate::notes::is_stepped;
 use crate::notes::noted_at;
 use crate::runs::put_run;
@@ -109,7 +110,7 @@ pub(crate) fn fill(
     let mut origin = 0;
     let mut i = 0;
     let mut last = 0;
-    while section[at] != 0x0F {
+    while section[at] != DONE {
         let n = put_run(section, at, step, table, rows);
         if n == 0 {
             let row = entry_at(section, at, origin);

@@ -18,15 +18,15 @@ use wire::integer::IntRead;
 use wire::integer::u32_at;
 
 // Tokens of the elements, and of the section's end.
-const PARENT: u8 = 0x07;
+pub(crate) const PARENT: u8 = 0x07;
 
-const CHILD: u8 = 0x87;
+pub(crate) const CHILD: u8 = 0x87;
 
-const CHANGE: u8 = 0x8A;
+pub(crate) const CHANGE: u8 = 0x8A;
 
-const DELETE: u8 = 0x8C;
+pub(crate) const DELETE: u8 = 0x8C;
 
-const DONE: u8 = 0x0F;
+pub(crate) const DONE: u8 = 0x0F;
 
 // A head that was read. Of row data: the kind of its row so far, the number of its schema, its child id, where the data start.
 pub enum Head {

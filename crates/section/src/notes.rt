@@ -3,6 +3,7 @@ ghost use mathlib.Core.Path.{_≡_};
 ghost use Prim.Native.Nat.{_≤_};
 ghost use lib.ListN.{length};
 ghost use Rattle.section.specs.Sizes.{inStep, NotedAt, NotedIs};
+use crate::heads::PARENT;
 use wire::bytes::lacks;
 use wire::integer::wide;
 
@@ -13,7 +14,7 @@ pub(crate) fn is_stepped(step: usize, token: u8) -> bool
     if step == 0 {
         return false;
     }
-    token == 0x07
+    token == PARENT
 }
 
 // Notes the size of an element at `i`, a 0 behind it, and answers where the next one goes. What can't be noted ends the notes.

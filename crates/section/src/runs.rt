@@ -3,6 +3,7 @@ ghost use mathlib.Core.Path.{_≡_};
 ghost use Prim.Native.Nat.{_≤_};
 ghost use lib.ListN.{length};
 ghost use Rattle.section.specs.Runs.{Run, laidRun};
+use crate::heads::PARENT;
 use crate::table::put_row;
 
 // How many parents follow each other from `start` on, each by a step from the one before. Without a step it says none.
@@ -16,7 +17,7 @@ pub(crate) fn run(section: &[u8], start: usize, step: usize) -> usize
     let mut n = 0;
     let mut at = start;
     while at + step <= section.len() {
-        if section[at] != 0x07 {
+        if section[at] != PARENT {
             return n;
         }
         at += step;
@@ -42,7 +43,7 @@ pub(crate) fn put_run(
     let mut n = 0;
     let mut at = start;
     while at + step <= section.len() {
-        if section[at] != 0x07 {
+        if section[at] != PARENT {
             return n;
         }
         put_row(table, first + n, 1, 0, at + 1, 0);

@@ -6,6 +6,9 @@ ghost use Rattle.shapes.specs.Shapes.{Sound};
 ghost use Rattle.section.specs.Heads.{beforeIn};
 ghost use Rattle.section.specs.Said.{SaidAt};
 use crate::children::find_child;
+use crate::heads::CHANGE;
+use crate::heads::CHILD;
+use crate::heads::PARENT;
 use crate::table::id_behind;
 use quick::ends::quick_row;
 use quick::ends::quick_update;
@@ -40,7 +43,7 @@ pub(crate) fn element_said(
         };
     }
     let token = section[at];
-    if token == 0x07 {
+    if token == PARENT {
         let end = quick_row(shapes, 0, section, at + 1);
         return Said {
             kind: 1,
@@ -49,7 +52,7 @@ pub(crate) fn element_said(
         };
     }
     let id = id_behind(section, at);
-    if token == 0x87 {
+    if token == CHILD {
         let number = find_child(slots, schemas, last, id);
         if number == 0 {
             return Said {
@@ -65,7 +68,7 @@ pub(crate) fn element_said(
             end,
         };
     }
-    if token == 0x8A {
+    if token == CHANGE {
         if 0 < child {
             if id_in(slots[256 + child]) == id as u64 {
                 let end = quick_update(shapes, child, section, at + 5);
