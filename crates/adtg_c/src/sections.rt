@@ -1,12 +1,13 @@
 // Row sections.
 ghost use mathlib.Core.Path.{_≡_};
 ghost use lib.ListN.{length};
-ghost use Rattle.section.specs.Table.{rowsRead, tableAfter, rowCount, toldRows};
+ghost use Rattle.section.specs.Table.{rowsChecked, rowsListed, tableAfter, rowCount, toldRows};
 ghost use Rattle.answers.specs.Answers.{Answered, sizeValues};
 use answers::answer::refuse;
 use answers::answer::tell;
+use section::check::check_section;
+use section::list::list_section;
 use section::read::RowsRead;
-use section::read::read_section;
 
 // The answer of a section that was read: how many rows it has.
 fn answer_rows(rows: RowsRead, out: &mut [u64; 16]) -> u32
@@ -21,16 +22,24 @@ fn answer_rows(rows: RowsRead, out: &mut [u64; 16]) -> u32
     }
 }
 
-// Reads a whole row section into `table`, four numbers a row: how many rows.
+// Checks a whole row section: how many rows it has.
 #[no_mangle]
-pub extern "C" fn adtg_read_section(
+pub extern "C" fn adtg_check_section(file: &[u8], section: &[u8], out: &mut [u64; 16]) -> u32
+    ensures { λ r. ⌜ Answered sizeValues (rowCount (rowsChecked (now (file .entry)) (now (section .entry)))) r (now (out .exit)) ⌝ }
+{
+    answer_rows(check_section(file, section), out)
+}
+
+// Checks a whole row section and lists its rows in `table`, four numbers a row: how many rows.
+#[no_mangle]
+pub extern "C" fn adtg_list_section(
     file: &[u8],
     section: &[u8],
     table: &mut [u32],
     out: &mut [u64; 16],
 ) -> u32
-    ensures answers { λ r. ⌜ Answered sizeValues (rowCount (rowsRead (now (file .entry)) (now (section .entry)) (length (now (table .entry))))) r (now (out .exit)) ⌝ }
-    ensures leaves { λ r. ⌜ now (table .exit) ≡ tableAfter (rowsRead (now (file .entry)) (now (section .entry)) (length (now (table .entry)))) (now (table .entry)) ⌝ }
+    ensures answers { λ r. ⌜ Answered sizeValues (rowCount (rowsListed (now (file .entry)) (now (section .entry)) (length (now (table .entry))))) r (now (out .exit)) ⌝ }
+    ensures leaves { λ r. ⌜ now (table .exit) ≡ tableAfter (rowsListed (now (file .entry)) (now (section .entry)) (length (now (table .entry)))) (now (table .entry)) ⌝ }
 {
-    answer_rows(read_section(file, section, table), out)
+    answer_rows(list_section(file, section, table), out)
 }

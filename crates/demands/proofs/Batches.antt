@@ -40,7 +40,7 @@ use Rattle.jump.proofs.Inside.{row-inside, row-placed}
 use Rattle.grammar.specs.Grammar.{Row, columnsAt}
 use Rattle.grammar.proofs.Demand as grammar
 use Rattle.grammar.proofs.Usable.{RowAt, Usable, parent-row, unchanged-row, changed-row, deleted-row, Each, each-end, each-next, rows-usable}
-use Rattle.section.specs.Table.{tableNumbers, rowsRead, tableAfter}
+use Rattle.section.specs.Table.{tableNumbers, rowsListed, tableAfter}
 use Rattle.batch.specs.Spans.{rowsFrom, rowsOf, parents, ownerOf, startIn, Span, span, nullMark, chapterMark, spanOf, isRow, moved, spanIn, spansIn, spansBy, planned, spansFound}
 use Rattle.batch.proofs.Alike.{batch-alike}
 use Rattle.adtg.specs.Plans as adtg
@@ -51,7 +51,7 @@ use Rattle.demands.specs.Examples.{T, sectionT}
 use Rattle.demands.specs.Sections.{Given, listing}
 use Rattle.demands.specs.Batches.{walked, owned, Owner, parent-rows, child-rows, SpansOf, no-row, a-row, Lies, lies, is-null, is-chapter, Placed, placed, null-placed, chapter-placed, SpansAt, no-span, a-span}
 use Rattle.demands.proofs.Plans.{plan-route-is-walk}
-use Rattle.demands.proofs.Sections.{accepted-iff-split, split-listed, length-numbers}
+use Rattle.demands.proofs.Sections.{listed-iff-split, split-listed, length-numbers}
 
 -- Through the plan that a schema makes, a batch is the batch by the walk in that schema, whole: for any section, any numbers as its rows,
 -- any owner, column and room.
@@ -272,12 +272,12 @@ module _ (file s : Bytes) (S : List Schema) (bytes : AreBytes file) (g : Given f
 
     -- Over the rows that reading the section listed, with room for those of the owner, no row is refused.
     pub listed-found :
-        (table : List ℕ) (rs : List Row) → rowsRead file s (length table) ≡ ok rs → (room : ℕ) → 2 * length (owned owner rs) ≤ room →
-        (xs : List Span) × (spansFound p s (take (4 * length rs) (tableAfter (rowsRead file s (length table)) table)) owner column room ≡ ok xs) × (length xs ≡ length (owned owner rs))
+        (table : List ℕ) (rs : List Row) → rowsListed file s (length table) ≡ ok rs → (room : ℕ) → 2 * length (owned owner rs) ≤ room →
+        (xs : List Span) × (spansFound p s (take (4 * length rs) (tableAfter (rowsListed file s (length table)) table)) owner column room ≡ ok xs) × (length xs ≡ length (owned owner rs))
     unfolding spansBy about check
     listed-found table rs e room fits =
-        let (es, sp, r, listed) = accepted-iff-split file s S g (length table) rs .0 e in
-        let after : tableAfter (rowsRead file s (length table)) table ≡ listing rs table = rw (← r) (split-listed file s S g table es sp (rw r listed)) in
+        let (es, sp, r, listed) = listed-iff-split file s S g (length table) rs .0 e in
+        let after : tableAfter (rowsListed file s (length table)) table ≡ listing rs table = rw (← r) (split-listed file s S g table es sp (rw r listed)) in
         let front : take (4 * length rs) (listing rs table) ≡ tableNumbers rs = take-at (tableNumbers rs) (drop (4 * length rs) table) (4 * length rs) (length-numbers rs) in
         let (xs, q, n) = rows-span (rows-usable S s rs (grammar.table-iff-split S s rs .1 (es, sp, r))) in
         (xs, rw (after, front, rows-of-numbers rs, sized-within s (g .within), q, le-leb (2 * length xs) room (omega arith)) refl, n)

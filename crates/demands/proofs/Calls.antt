@@ -16,7 +16,7 @@ use Rattle.header.specs.Header.{headerOf, headerWritten}
 use Rattle.options.specs.Options.{optionsOf, optionsWritten}
 use Rattle.questions.specs.Questions.{countsOf, columnCountOf, columnOf, childOf}
 use Rattle.numbers.specs.Writer.{coded, numbersListed, fileWritten}
-use Rattle.section.specs.Table.{rowsRead}
+use Rattle.section.specs.Table.{rowsChecked, rowsListed}
 use Rattle.walk.specs.Rows.{lookUp, fieldCount, rowEnd}
 use Rattle.walk.specs.Updates.{lookUpdate, updateEnd, current}
 use Rattle.encode.specs.Writers.{writeOriginal, writeUpdate}
@@ -33,14 +33,14 @@ use Rattle.adtg.specs.Plans.{planIn, planBeside, Checked}
 use Rattle.demands.specs.Checks.{Refusals, Silent, Never, _then_, Exactly, Of, lent, lentNumbers, Sizes, over, within, Missing, NoRoom, Refuses}
 use Rattle.demands.specs.RowFaults.{OpenFaults, RowFaults, LookUpFaults, UpdateFaults, LookUpdateFaults, CurrentFaults}
 use Rattle.demands.specs.FileFaults.{FileFault, schemasIn, columnsIn, numbersIn, NoChild, WrittenFault}
-use Rattle.demands.specs.SectionFaults.{RowsFaults}
+use Rattle.demands.specs.SectionFaults.{CheckFaults, ListFaults}
 use Rattle.demands.specs.HeadFaults.{HeaderFaults, OptionsFaults, HeaderWriteFaults, OptionsWriteFaults}
 use Rattle.demands.specs.WriterFaults.{WriteFaults}
 use Rattle.demands.specs.PlanFaults.{PlanFault, differs, PlanOpenFaults, PlannedFaults, PlannedRowFaults, BatchFault, foundSpans}
 use Rattle.demands.specs.Calls.{WithFile, InFile, InSchema}
 use Rattle.demands.proofs.Exactly.{refuses, refuses-within, exactly-alike, exactly-within, then-grouped, then-alike, exactly-sized, never-then, never-of, never-missing, never-room}
 use Rattle.demands.proofs.FileExactly.{size-within, sizes-none, sizes-one, sizes-more, sizes-rest, exactly-in-schema, exactly-in-schema-told, counts-exactly, column-count-exactly, column-exactly, child-exactly, numbers-exactly, schema-written-exactly, file-never-size, never-child, never-schema-written}
-use Rattle.demands.proofs.SectionExactly.{section-exactly, never-rows}
+use Rattle.demands.proofs.SectionExactly.{checked-exactly, listed-exactly, never-checked, never-listed}
 use Rattle.demands.proofs.HeadExactly.{header-exactly, options-exactly, header-written-exactly, options-written-exactly, never-header, never-options, never-header-written, never-options-written}
 use Rattle.demands.proofs.RowExactly.{Foreign, foreign, exactly-row-end, exactly-look-up, exactly-field-count, exactly-update-end, exactly-look-update, exactly-current, never-opened, never-row, never-look-up, never-update, never-look-update, never-current}
 use Rattle.demands.proofs.WriterExactly.{exactly-original, exactly-update, never-written}
@@ -220,9 +220,12 @@ module _ (file : Bytes) where
   schema-numbers-refuses capacity = refuses (numbers-exactly file capacity) (never-then file-never-size (never-room (λ e. omega arith)))
 
   -- and row sections
-  pub read-section-refuses :
-      (s : Bytes) (numbers : ℕ) → Refuses (rowsRead file s numbers) (lent input.Schema file ∷ lent input.Section s ∷ []) (RowsFaults file s numbers)
-  read-section-refuses s numbers = refuses (section-exactly file s numbers) (never-rows file s numbers)
+  pub check-section-refuses : (s : Bytes) → Refuses (rowsChecked file s) (lent input.Schema file ∷ lent input.Section s ∷ []) (CheckFaults file s)
+  check-section-refuses s = refuses (checked-exactly file s) (never-checked file s)
+
+  pub list-section-refuses :
+      (s : Bytes) (numbers : ℕ) → Refuses (rowsListed file s numbers) (lent input.Schema file ∷ lent input.Section s ∷ []) (ListFaults file s numbers)
+  list-section-refuses s numbers = refuses (listed-exactly file s numbers) (never-listed file s numbers)
 
 -- the writer, lent numbers of 32 bits
 pub write-schema-refuses :

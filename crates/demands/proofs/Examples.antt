@@ -19,10 +19,10 @@ use Rattle.walk.specs.Rows.{step, walk, arrive, opened, walked, fieldOf, column
 use Rattle.walk.specs.Updates.{numbered, updateBytes, chapterMarked, forceBroken, carried, carriedIn, updateOpened, updateWalked, updateEnd}
 use Rattle.grammar.specs.Grammar.{childKind, updateStart, rows}
 use Rattle.grammar.specs.Reader.{tokenOf, knownChild, element, scan, elements, section}
-use Rattle.section.specs.Table.{rowsFitting, rowsRead}
+use Rattle.section.specs.Table.{rowsChecked, rowsListed}
 use Rattle.adtg.specs.Rows.{lookUpIn}
 use Rattle.demands.specs.Examples.{Example, answerTo, examples}
 
 pub examples-hold : map (λ (e : Example). answerTo (e .call)) examples ≡ map (λ (e : Example). e .said) examples
-unfolding examples headerOf headerFields sized sizedBy check constants byteAt whole types kindIn kindOf thirdGroup secondGroup numberIn member readNumber readRange readFixed readVariable readChapter readKind readColumn readColumns readSchema ended readFile fileOf ownColumns nestedSchemas schemasOf readSchemas schemaAt withSchema about bitAt bitSet mapBytes valueOf intAt readInt isNullable prefixSize greatest lengthErrorOf lengthError allowed bytesAt variableAt fieldAt nullables presenceBytes marks bitOf present chapterPresent clear step walk arrive opened walked fieldOf columnOf known lookUp lookUpIn columnsOf numberFrom childNumber rowEnd numbered updateBytes chapterMarked forceBroken carried carriedIn updateOpened updateWalked updateEnd childKind updateStart rows tokenOf knownChild element scan elements section rowsFitting rowsRead
+unfolding examples headerOf headerFields sized sizedBy check constants byteAt whole types kindIn kindOf thirdGroup secondGroup numberIn member readNumber readRange readFixed readVariable readChapter readKind readColumn readColumns readSchema ended readFile fileOf ownColumns nestedSchemas schemasOf readSchemas schemaAt withSchema about bitAt bitSet mapBytes valueOf intAt readInt isNullable prefixSize greatest lengthErrorOf lengthError allowed bytesAt variableAt fieldAt nullables presenceBytes marks bitOf present chapterPresent clear step walk arrive opened walked fieldOf columnOf known lookUp lookUpIn columnsOf numberFrom childNumber rowEnd numbered updateBytes chapterMarked forceBroken carried carriedIn updateOpened updateWalked updateEnd childKind updateStart rows tokenOf knownChild element scan elements section rowsChecked rowsListed
 examples-hold = refl

@@ -12,19 +12,19 @@ use lib.Dec.{leb, eqb}
 use borrow.Author.Tests.{leb-true, leb-false, eqb-false, eq-eqb, ne-eqb}
 use Rattle.wire.specs.declared.error.Input.{Input}
 use Rattle.wire.specs.declared.error.Input.the-variants as input
-use Rattle.wire.specs.Read.{Bytes, Read, ok, bad, _>>=_, check, about, whole}
+use Rattle.wire.specs.Read.{Bytes, Read, ok, bad, _>>=_, check, about, whole, sized}
 use Rattle.wire.proofs.Laws.{whole-fits, whole-short}
 use Rattle.wire.proofs.Pieces.{check-ok, about-ok}
-use Rattle.tree.specs.Schemas.{Schema, childNumber}
+use Rattle.tree.specs.Schemas.{Schema, childNumber, readSchemas}
 use Rattle.grammar.specs.Grammar.{Element, Before, other, after, columnsAt, rows}
 use Rattle.grammar.specs.Reader.{Token, parentToken, childToken, changeToken, deleteToken, doneToken, unknownToken, tokenOf, knownChild, follows, idAt, element, scan, elements, section}
 use Rattle.grammar.proofs.Ends.{row-ends, update-ends}
 use Rattle.grammar.proofs.Sections.{Says, says, follows-after, known-ok}
 use Rattle.grammar.proofs.RowErrors.{OfError, no-error, an-error, of-bind, of-check, of-other, of-row, of-update}
-use Rattle.section.specs.Table.{roomFor, rowsFitting, rowsRead}
+use Rattle.section.specs.Table.{roomFor, fitting, rowsFitting, rowsChecked, rowsListed}
 use Rattle.demands.specs.Checks.{Refusals, Never, _then_, first, second, Exactly, Of, Lent, lent, Sizes, over, within, NoRoom, no-room}
 use Rattle.demands.specs.FileFaults.{schemasIn}
-use Rattle.demands.specs.SectionFaults.{NoToken, HasId, of-child, of-change, of-delete, a-change, a-delete, SectionFault, no-token, unknown-token, bytes-after, in-id, unknown-id, alone, in-parent, in-child, in-change, behind-parent, behind-child, behind-change, behind-delete, rowsIn, RowsFaults}
+use Rattle.demands.specs.SectionFaults.{NoToken, HasId, of-child, of-change, of-delete, a-change, a-delete, SectionFault, no-token, unknown-token, bytes-after, in-id, unknown-id, alone, in-parent, in-child, in-change, behind-parent, behind-child, behind-change, behind-delete, rowsIn, CheckFaults, ListFaults}
 use Rattle.demands.proofs.Exactly.{exactly-of, never-room, exactly-then, exactly-last, exactly-about, exactly-room, over-iff, never-then, never-of}
 use Rattle.demands.proofs.RowExactly.{exactly-row-end-alone, exactly-update-end-alone, foreign, never-row, never-update}
 use Rattle.demands.proofs.FileExactly.{sizes-one, exactly-front, file-never-room, file-never-size}
@@ -211,16 +211,33 @@ module _ (S : List Schema) (s : Bytes) where
 -- The rows of a section under these schemas: its faults, and last the room.
 pub exactly-rows-fitting : (S : List Schema) (s : Bytes) (numbers : ℕ) →
     Exactly (rowsFitting S s numbers) (Of input.Section (SectionFault S s other 0) then Of input.Table (NoRoom (length (rowsIn S s)) (roomFor numbers)))
-unfolding rowsFitting rowsIn
+unfolding rowsIn
 exactly-rows-fitting S s numbers =
     exactly-then (about input.Section (section S s)) _ (exactly-about input.Section (section S s) (exactly-section S s))
     (λ rs e. rw (about-ok input.Section (section S s) rs e) (exactly-last _ (λ _. rs) (exactly-about input.Table _ (exactly-room (length rs) (roomFor numbers)))))
 
--- The rows of a section under a schema file: every refusal, exactly.
-pub section-exactly : (file s : Bytes) (numbers : ℕ) → Exactly (rowsRead file s numbers) (Sizes (lent input.Schema file ∷ lent input.Section s ∷ []) then RowsFaults file s numbers)
-unfolding rowsRead
-section-exactly file s numbers =
-    exactly-front file (sizes-one input.Section s) (λ S. rowsFitting S s numbers) (λ _ _. exactly-rows-fitting (schemasIn file) s numbers)
+-- A section under a schema file: every refusal, exactly.
+pub checked-exactly : (file s : Bytes) → Exactly (rowsChecked file s) (Sizes (lent input.Schema file ∷ lent input.Section s ∷ []) then CheckFaults file s)
+unfolding rowsChecked
+checked-exactly file s =
+    exactly-front file (sizes-one input.Section s) (λ S. about input.Section (section S s))
+    (λ _ _. exactly-about input.Section (section (schemasIn file) s) (exactly-section (schemasIn file) s))
+
+-- With a table.
+pub listed-exactly : (file s : Bytes) (numbers : ℕ) → Exactly (rowsListed file s numbers) (Sizes (lent input.Schema file ∷ lent input.Section s ∷ []) then ListFaults file s numbers)
+unfolding rowsChecked rowsListed
+listed-exactly file s numbers =
+    rw (behind (about input.Schema (sized file)) (about input.Section (sized s)) (about input.Schema (readSchemas file)))
+    (exactly-front file (sizes-one input.Section s) (λ S. rowsFitting S s numbers) (λ _ _. exactly-rows-fitting (schemasIn file) s numbers))
+  where
+    -- the room is asked behind all that
+    behind :
+        (a b : Read (Unit {0})) (c : Read (List Schema)) →
+        ((a >>= λ _. b >>= λ _. c >>= λ S. about input.Section (section S s)) >>= fitting numbers) ≡ (a >>= λ _. b >>= λ _. c >>= λ S. rowsFitting S s numbers)
+    behind (bad _ _ _) b c = refl
+    behind (ok _) (bad _ _ _) c = refl
+    behind (ok _) (ok _) (bad _ _ _) = refl
+    behind (ok _) (ok _) (ok S) = refl
 
 -- No code over 15 is of a section: 16 is of the table alone, 19 of a size alone.
 
@@ -242,5 +259,15 @@ section-codes h (behind-delete _ _ f) = section-codes h f
 pub never-section : (S : List Schema) (s : Bytes) {name : Input} (n : ℕ) → 15 < n → Never n (Of name (SectionFault S s other 0))
 never-section S s n h = never-of (λ _ f. section-codes h f)
 
-pub never-rows : (file s : Bytes) (numbers : ℕ) → Never 19 (RowsFaults file s numbers)
-never-rows file s numbers = never-then file-never-size (never-then (never-section (schemasIn file) s 19 (omega arith)) (never-room (λ e. omega arith)))
+pub never-checked : (file s : Bytes) → Never 19 (CheckFaults file s)
+never-checked file s = never-then file-never-size (never-section (schemasIn file) s 19 (omega arith))
+
+pub never-listed : (file s : Bytes) (numbers : ℕ) → Never 19 (ListFaults file s numbers)
+never-listed file s numbers = never-then file-never-size (never-then (never-section (schemasIn file) s 19 (omega arith)) (never-room (λ e. omega arith)))
+
+-- No size gives 16, and so no check of a section does.
+sizes-never : {l : List Lent} {offset : ℕ} {name : Input} → Sizes l 16 offset name → ⊥
+sizes-never (within h p) = sizes-never p
+
+pub never-full : (file s : Bytes) → Never 16 (Sizes (lent input.Schema file ∷ lent input.Section s ∷ []) then CheckFaults file s)
+never-full file s = never-then (λ _ _ p. sizes-never p) (never-then file-never-room (never-section (schemasIn file) s 16 (omega arith)))

@@ -2,13 +2,14 @@
 -- Assumes nothing.
 use Prim.Native.Nat.{ℕ}
 use mathlib.Core.List.{List, [], _∷_, map}
+use lib.ListN.{length}
 use Rattle.wire.specs.Read.{Bytes, Read, ok, bad}
 use Rattle.header.specs.declared.header.Header.{Header}
 use Rattle.header.specs.Header.{headerOf}
 use Rattle.tree.specs.Schemas.{Entry, entry, Schema, schema, readSchemas}
 use Rattle.walk.specs.Rows.{Answer, field, null, chapter}
 use Rattle.grammar.specs.Grammar.{Row}
-use Rattle.section.specs.Table.{rowNumbers, rowsRead}
+use Rattle.section.specs.Table.{rowNumbers, rowsChecked, rowsListed}
 use Rattle.adtg.specs.Rows.{lookUpIn}
 
 -- a call with its inputs; of a table for rows, how many numbers it holds
@@ -16,16 +17,18 @@ pub data Call : Type 0 where
   readHeader : Bytes → Call
   readSchema : Bytes → Call
   lookUp : (file row : Bytes) (column : ℕ) → Call
-  readRows : (file section : Bytes) (table : ℕ) → Call
+  checkRows : (file section : Bytes) → Call
+  listRows : (file section : Bytes) (table : ℕ) → Call
 
 -- an answer in the paper's words: where a piece ends, the columns of the top schema, a field by its two ends and its prefixes, null, a
--- chapter, rows by their numbers in the table, or an error by its number and place
+-- chapter, how many rows, rows by their numbers in the table, or an error by its number and place
 pub data Said : Type 0 where
   endsAt : ℕ → Said
   columnsAre : List Entry → Said
   fieldAt : (start end prefixes : ℕ) → Said
   isNull : Said
   isChapter : Said
+  rowsNumber : ℕ → Said
   rowsAre : List (List ℕ) → Said
   refusedAt : ℕ → ℕ → Said
 
@@ -47,6 +50,10 @@ sayField (ok null) = isNull
 sayField (ok chapter) = isChapter
 sayField (bad code offset about) = refusedAt code offset
 
+abbrev pub sayCount : Read (List Row) → Said
+sayCount (ok rows) = rowsNumber (length rows)
+sayCount (bad code offset about) = refusedAt code offset
+
 abbrev pub sayRows : Read (List Row) → Said
 sayRows (ok rows) = rowsAre (map rowNumbers rows)
 sayRows (bad code offset about) = refusedAt code offset
@@ -56,7 +63,8 @@ abbrev pub answerTo : Call → Said
 answerTo (readHeader bytes) = sayEnd (headerOf bytes)
 answerTo (readSchema bytes) = sayColumns (readSchemas bytes)
 answerTo (lookUp file row column) = sayField (lookUpIn file 0 row column)
-answerTo (readRows file section table) = sayRows (rowsRead file section table)
+answerTo (checkRows file section) = sayCount (rowsChecked file section)
+answerTo (listRows file section table) = sayRows (rowsListed file section table)
 
 pub record Example : Type 0 where
   pub call : Call
@@ -110,10 +118,13 @@ examples =
     ∷ example (lookUp S cutOff 0) (fieldAt 1 5 0)
     ∷ example (lookUp S cutOff 2) (refusedAt 1 5)
     ∷ example (lookUp S oddText 1) (refusedAt 14 5)
-    ∷ example (readRows S (0x0F ∷ []) 0) (rowsAre [])
-    ∷ example (readRows S (0x0F ∷ 0x0F ∷ []) 0) (refusedAt 15 1)
-    ∷ example (readRows T sectionT 8) (rowsAre ((1 ∷ 0 ∷ 1 ∷ 0 ∷ []) ∷ (3 ∷ 7 ∷ 10 ∷ 16 ∷ []) ∷ []))
-    ∷ example (readRows T sectionT 7) (refusedAt 16 2)
-    ∷ example (readRows T (sectionWith 0x08 0x80 0x00) 8) (refusedAt 11 11)
-    ∷ example (readRows T (sectionWith 0x07 0x00 0x80) 8) (refusedAt 13 17)
+    ∷ example (checkRows S (0x0F ∷ [])) (rowsNumber 0)
+    ∷ example (checkRows T sectionT) (rowsNumber 2)
+    ∷ example (checkRows T (sectionWith 0x08 0x80 0x00)) (refusedAt 11 11)
+    ∷ example (listRows S (0x0F ∷ []) 0) (rowsAre [])
+    ∷ example (listRows S (0x0F ∷ 0x0F ∷ []) 0) (refusedAt 15 1)
+    ∷ example (listRows T sectionT 8) (rowsAre ((1 ∷ 0 ∷ 1 ∷ 0 ∷ []) ∷ (3 ∷ 7 ∷ 10 ∷ 16 ∷ []) ∷ []))
+    ∷ example (listRows T sectionT 7) (refusedAt 16 2)
+    ∷ example (listRows T (sectionWith 0x08 0x80 0x00) 8) (refusedAt 11 11)
+    ∷ example (listRows T (sectionWith 0x07 0x00 0x80) 8) (refusedAt 13 17)
     ∷ []

@@ -75,8 +75,12 @@ rowsTold (bad code offset name) = []
 unfoldable pub rowsIn : List Schema → Bytes → List Row
 rowsIn schemas s = rowsTold (section schemas s)
 
--- The rows of a section under a schema file, in a table of so many numbers, behind the sizes: the file, the section, and last the room for its rows.
-abbrev pub RowsFaults : (file section : Bytes) (numbers : ℕ) → Refusals
-RowsFaults file s numbers =
+-- A section under a schema file, behind the sizes: the file, and then the section.
+abbrev pub CheckFaults : (file section : Bytes) → Refusals
+CheckFaults file s = Of input.Schema (FileFault file) then Of input.Section (SectionFault (schemasIn file) s other 0)
+
+-- With a table of so many numbers: the same, and last the room for the rows.
+abbrev pub ListFaults : (file section : Bytes) (numbers : ℕ) → Refusals
+ListFaults file s numbers =
     Of input.Schema (FileFault file) then Of input.Section (SectionFault (schemasIn file) s other 0)
     then Of input.Table (NoRoom (length (rowsIn (schemasIn file) s)) (roomFor numbers))

@@ -24,7 +24,7 @@ use Rattle.io.specs.Digits.{digits, Fewest}
 use Rattle.tree.specs.Schemas.{Schema, readSchemas}
 use Rattle.grammar.specs.Grammar.{Row, entry}
 use Rattle.grammar.specs.Reader.{section}
-use Rattle.section.specs.Table.{tableNumbers, rowsFitting, rowsRead, rowCount, tableAfter}
+use Rattle.section.specs.Table.{tableNumbers, fitting, rowsChecked, rowsListed, rowCount, tableAfter}
 use Rattle.section.proofs.Listing.{rows-told, error-told}
 use Rattle.listing.specs.Lines.{space, newline, rowsWord, atWord, CountLine, count-line, RowLine, row-line, RowLines, no-lines, one-more, sheetRefused, rowsRefused, refusalWords, RefusalLine, refusal-line, Text, rows-text, refusal-text, rowsOf, Adds, AddsNumber, AddsThe}
 use Rattle.listing.specs.Listing.{fileLimit, listing}
@@ -193,26 +193,22 @@ module _ (name : Input) {a b : ℕ} (p : a ≡ inputNumber name) (q : b ≡ inpu
   pub of-rows : (a ≡ b → ⊥) → rowsRefused ≡ refusalWords name
   of-rows e = rw (ne-eqb (inputNumber name) (inputNumber input.Schema) (λ h. e (p ∙ h ∙ sym q))) refl
 
--- rows that were read have room in the table
-fitting-room : (S : List Schema) (s : Bytes) (numbers : ℕ) (rs : List Row) → rowsFitting S s numbers ≡ ok rs → length rs ≤ numbers / 4
-unfolding rowsFitting
-fitting-room S s numbers rs e =
-    let p = bind-ok (about input.Section (section S s)) _ rs e in
-    let q = bind-ok (about input.Table (check (leb (length (p .0)) (numbers / 4)) 16 (length (p .0)))) _ rs (p .2) in
-    let h : length (p .0) ≤ numbers / 4 = leb-true _ _ (check-ok _ _ _ _ (about-ok input.Table _ _ (q .1))) in
-    let z : length (p .0) ≡ length rs = ap length (ok-ok (q .2)) in
+-- rows that are listed have room in the table
+fitting-room : (numbers : ℕ) (qs rs : List Row) → fitting numbers qs ≡ ok rs → length rs ≤ numbers / 4
+fitting-room numbers qs rs e =
+    let q = bind-ok (about input.Table (check (leb (length qs) (numbers / 4)) 16 (length qs))) _ rs e in
+    let h : length qs ≤ numbers / 4 = leb-true _ _ (check-ok _ _ _ _ (about-ok input.Table _ _ (q .1))) in
+    let z : length qs ≡ length rs = ap length (ok-ok (q .2)) in
     omega arith
 
 pub rows-room : (sheet rows : Bytes) (numbers n : ℕ) → ok n ≡ rowCount (listing sheet rows numbers) → n ≤ numbers / 4
-unfolding listing rowsRead
+unfolding listing rowsListed
 rows-room sheet rows numbers n e =
     let t = rows-told (listing sheet rows numbers) n e in
     let a = bind-ok (about input.Schema (check (leb (length sheet) fileLimit) 19 0)) _ (t .0) (t .1) in
     let b = bind-ok (about input.Section (check (leb (length rows) fileLimit) 19 0)) _ (t .0) (a .2) in
-    let c = bind-ok (about input.Schema (sized sheet)) _ (t .0) (b .2) in
-    let d = bind-ok (about input.Section (sized rows)) _ (t .0) (c .2) in
-    let f = bind-ok (about input.Schema (readSchemas sheet)) _ (t .0) (d .2) in
-    let h : length (t .0) ≤ numbers / 4 = fitting-room (f .0) rows numbers (t .0) (f .2) in
+    let c = bind-ok (rowsChecked sheet rows) (fitting numbers) (t .0) (b .2) in
+    let h : length (t .0) ≤ numbers / 4 = fitting-room numbers (c .0) (t .0) (c .2) in
     omega (arith, t .2)
 
 -- The text of a listing that is refused, or of rows.
@@ -255,6 +251,6 @@ module _ (sheet rows : Bytes) (numbers : ℕ) where
     unfolding listing about check
     rows-large h = rw (le-leb (length sheet) fileLimit f, lt-leb (length rows) fileLimit h) refl
 
-    pub sizes-fit : length rows ≤ fileLimit → listing sheet rows numbers ≡ rowsRead sheet rows numbers
+    pub sizes-fit : length rows ≤ fileLimit → listing sheet rows numbers ≡ rowsListed sheet rows numbers
     unfolding listing about check
     sizes-fit h = rw (le-leb (length sheet) fileLimit f, le-leb (length rows) fileLimit h) refl

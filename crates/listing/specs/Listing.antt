@@ -9,7 +9,7 @@ use Rattle.wire.specs.declared.error.Input.{Input}
 use Rattle.wire.specs.declared.error.Input.the-variants as input
 use Rattle.wire.specs.Read.{Bytes, Read, bad, _>>=_, check, about}
 use Rattle.grammar.specs.Grammar.{Row}
-use Rattle.section.specs.Table.{rowsRead}
+use Rattle.section.specs.Table.{rowsListed}
 
 -- the most bytes that a file may have
 abbrev pub fileLimit : ℕ
@@ -20,11 +20,11 @@ unfoldable pub listing : (sheet rows : Bytes) (numbers : ℕ) → Read (List Row
 listing sheet rows numbers = do
   _ ← about input.Schema (check (leb (length sheet) fileLimit) 19 0)
   _ ← about input.Section (check (leb (length rows) fileLimit) 19 0)
-  rowsRead sheet rows numbers
+  rowsListed sheet rows numbers
 
--- What is refused, by number, place and input: a schema file over the limit, else a section over it, else what the section's reader refuses.
+-- What is refused, by number, place and input: a schema file over the limit, else a section over it, else what the call that lists refuses.
 pub data Refusal (sheet rows : Bytes) (numbers : ℕ) : (code place : ℕ) → Input → Type 0 where
   sheet-over : fileLimit < length sheet → Refusal sheet rows numbers 19 0 input.Schema
   rows-over : length sheet ≤ fileLimit → fileLimit < length rows → Refusal sheet rows numbers 19 0 input.Section
-  in-reading : {code place : ℕ} {name : Input} → length sheet ≤ fileLimit → length rows ≤ fileLimit → rowsRead sheet rows numbers ≡ bad code place name →
+  in-reading : {code place : ℕ} {name : Input} → length sheet ≤ fileLimit → length rows ≤ fileLimit → rowsListed sheet rows numbers ≡ bad code place name →
       Refusal sheet rows numbers code place name

@@ -8,8 +8,8 @@ ghost use Rattle.listing.specs.Listing.{listing};
 use crate::lines::add_count;
 use crate::lines::add_error;
 use crate::lines::add_rows;
+use section::list::list_section;
 use section::read::RowsRead;
-use section::read::read_section;
 use wire::error::Error;
 use wire::error::ErrorKind;
 use wire::error::Input;
@@ -27,7 +27,7 @@ fn list_rows(sheet: &[u8], rows: &[u8], table: &mut [u32]) -> RowsRead
     if rows.len() > FILE_LIMIT {
         return RowsRead::Refused(Error::at_start(ErrorKind::TooLarge, Input::Section));
     }
-    read_section(sheet, rows, table)
+    list_section(sheet, rows, table)
 }
 
 // The text of a listing. How many bytes it has.

@@ -57,9 +57,6 @@ id-read s at {n} h =
     let (b, e, f) = bind-ok (whole s (at + 1) 4) (λ _. ok (intAt s (at + 1) 4)) n h in
     (e ∙ ap (λ (x : ℕ). ok x) (id-end s at b e .0), ok-ok f)
 
-pub id-read-small : (s : Bytes) (at : ℕ) {n : ℕ} → AreBytes s → readInt s (at + 1) 4 ≡ ok n → n < 4294967296
-id-read-small s at o h = let (w, e) = id-read s at h in rw (← e) (id-small s at o (id-end s at _ w .1))
-
 -- An 87 element directly before, by the number of its schema.
 pub follows-child : (slots : List ℕ) (child id : ℕ) → 0 < child → follows (beforeIn slots child) id ≡ eqb (idIn (getD slots (schemaSlot child) 0)) id
 follows-child slots zero id h = absurd (omega arith)

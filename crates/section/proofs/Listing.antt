@@ -1,4 +1,4 @@
--- The rows of a section in the caller's table: what two passes over it come to, and the checks in front of them.
+-- The rows of a section, counted or in the caller's table: what the passes over it come to, and the checks in front of them.
 -- Assumes nothing.
 use Prim.Native.Nat.{ℕ, _*_, _/_, _<_, _≤_}
 use mathlib.Core.Path.{_≡_, refl, sym, ap, _∙_}
@@ -20,7 +20,7 @@ use Rattle.section.specs.declared.read.RowsRead.{RowsRead}
 use Rattle.section.specs.declared.read.RowsRead.the-variants as read
 use Rattle.grammar.specs.Grammar.{Row}
 use Rattle.grammar.specs.Reader.{section}
-use Rattle.section.specs.Table.{tableNumbers, rowsFitting, rowsRead, tableAfter, rowCount, toldRows, Listed}
+use Rattle.section.specs.Table.{tableNumbers, rowsChecked, rowsListed, rowsFitting, tableAfter, rowCount, toldRows, Listed}
 use Rattle.section.specs.Scan.{laidFrom}
 use Rattle.section.proofs.Laid.{laid-all}
 
@@ -64,7 +64,7 @@ listed-error r table e q = record { answers = rw q refl; leaves = rw q refl }
 
 module _ (S : List Schema) (s : Bytes) (table : List ℕ) where
   pub fitting-refused : (e : Error) → section S s ≡ refused e → Listed (rowsFitting S s (length table)) table table (read.Refused (named e input.Section))
-  unfolding rowsFitting about
+  unfolding about
   fitting-refused e q = listed-error _ table (named e input.Section) by
     where
       by : rowsFitting S s (length table) ≡ refused (named e input.Section)
@@ -73,7 +73,7 @@ module _ (S : List Schema) (s : Bytes) (table : List ℕ) where
   module _ (rs : List Row) (q : section S s ≡ ok rs) where
     pub fitting-full : (e : Error) → e ≡ record { kind = error.Capacity; offset = length rs; input = input.Table } → length table / 4 < length rs →
         Listed (rowsFitting S s (length table)) table table (read.Refused e)
-    unfolding rowsFitting about check
+    unfolding about check
     fitting-full e z h = rw z (listed-error _ table _ by)
       where
         by : rowsFitting S s (length table) ≡ bad 16 (length rs) input.Table
@@ -81,7 +81,7 @@ module _ (S : List Schema) (s : Bytes) (table : List ℕ) where
 
     pub fitting-rows : (exit : List ℕ) (r : RowsRead) → length rs ≤ length table / 4 → toldRows r ≡ rowCount (section S s) → exit ≡ laidFrom 0 rs table →
         Listed (rowsFitting S s (length table)) table exit r
-    unfolding tableAfter rowsFitting about check
+    unfolding tableAfter about check
     fitting-rows exit r h c l =
         record {
           answers = c ∙ ap rowCount q ∙ ap rowCount (sym by);
@@ -96,22 +96,46 @@ module _ (S : List Schema) (s : Bytes) (table : List ℕ) where
         Listed (rowsFitting S s (length table)) table exit (read.Rows n)
     fitting-count exit n z h l = fitting-rows exit (read.Rows n) h (ap (λ (m : ℕ). ok m) z ∙ ap rowCount (sym q)) l
 
--- the checks in front of a section
-module _ (file s : Bytes) (numbers : ℕ) where
-  pub file-large : limit < length file → rowsRead file s numbers ≡ bad 19 0 input.Schema
-  unfolding rowsRead about
+-- What comes before the rows: the sizes, and the schema file.
+module _ (file s : Bytes) where
+  pub file-large : limit < length file → rowsChecked file s ≡ bad 19 0 input.Schema
+  unfolding rowsChecked about
   file-large h = rw (sized-over file h) refl
 
   module _ (f : length file ≤ limit) where
-    pub section-large : limit < length s → rowsRead file s numbers ≡ bad 19 0 input.Section
-    unfolding rowsRead about
+    pub section-large : limit < length s → rowsChecked file s ≡ bad 19 0 input.Section
+    unfolding rowsChecked about
     section-large h = rw (sized-within file f, sized-over s h) refl
 
     module _ (h : length s ≤ limit) where
-      pub file-refused : (e : Error) → readSchemas file ≡ refused e → rowsRead file s numbers ≡ refused (named e input.Schema)
-      unfolding rowsRead about
+      pub file-refused : (e : Error) → readSchemas file ≡ refused e → rowsChecked file s ≡ refused (named e input.Schema)
+      unfolding rowsChecked about
       file-refused e q = rw (sized-within file f, sized-within s h, q) refl
 
-      pub file-read : (S : List Schema) → readSchemas file ≡ ok S → rowsRead file s numbers ≡ rowsFitting S s numbers
-      unfolding rowsRead about
+      pub file-read : (S : List Schema) → readSchemas file ≡ ok S → rowsChecked file s ≡ about input.Section (section S s)
+      unfolding rowsChecked about
       file-read S q = rw (sized-within file f, sized-within s h, q) refl
+
+  -- with a table: an error is the same
+  pub listed-refused : (numbers : ℕ) (e : Error) → rowsChecked file s ≡ refused e → rowsListed file s numbers ≡ refused e
+  unfolding rowsListed
+  listed-refused numbers e q = rw q refl
+
+  -- and else the rows have to fit
+  pub listed-fitting : (numbers : ℕ) (S : List Schema) → rowsChecked file s ≡ about input.Section (section S s) → rowsListed file s numbers ≡ rowsFitting S s numbers
+  unfolding rowsListed
+  listed-fitting numbers S q = rw q refl
+
+-- The rows of a section, counted.
+module _ (r : Read (List Row)) where
+  pub count-named : (n : ℕ) → ok n ≡ rowCount r → ok n ≡ rowCount (about input.Section r)
+  unfolding about
+  count-named n q = by r q
+    where
+      by : (x : Read (List Row)) → ok n ≡ rowCount x → ok n ≡ rowCount (about input.Section x)
+      by (ok rs) z = z
+      by (bad c o i) z = absurd (bad-ok (sym z))
+
+  pub error-named : (e : Error) → refused e ≡ rowCount r → refused (named e input.Section) ≡ rowCount (about input.Section r)
+  unfolding about
+  error-named e q = rw (error-told r e q) refl

@@ -9,20 +9,20 @@ use native.Mathlib.Omega.{arith}
 use native.Mathlib.Nat.{suc-mul, eq-or-lt-of-le}
 use lib.ListN.{length, getD}
 use lib.Dec.{eqb}
-use borrow.Author.Tests.{le-leb, ne-eqb}
-use Rattle.wire.specs.Read.{Bytes, AreBytes, ok, pick, check, whole}
+use borrow.Author.Tests.{ne-eqb}
+use Rattle.wire.specs.Read.{Bytes, AreBytes, ok, pick}
 use Rattle.wire.specs.Output.{put}
 use Rattle.wire.proofs.Laws.{put-not, length-put}
 use Rattle.walk.specs.Rows.{rowEnd}
 use Rattle.tree.specs.Schemas.{Schema}
-use Rattle.grammar.specs.Grammar.{Before, columnsAt, entry}
+use Rattle.grammar.specs.Grammar.{columnsAt, entry}
 use Rattle.grammar.specs.Reader.{tokenOf}
 use Rattle.grammar.specs.Pending.{Pending, nothing, beforeOf}
-use Rattle.section.specs.Heads.{dataHead, headBy, headAt}
 use Rattle.section.specs.Table.{rowNumbers}
 use Rattle.section.specs.Runs.{Run, laidRun}
 use Rattle.section.specs.Sizes.{endBy, inStep}
 use Rattle.section.proofs.Scan.{AtElement, head-ahead, row-ended}
+use Rattle.section.proofs.HeadLaws.{head-parent}
 use Rattle.section.proofs.Noting.{AtNote, noted-pass}
 
 -- one step more
@@ -81,10 +81,6 @@ unfolding laidRun
 length-laid-run first start step zero table = refl
 length-laid-run first start step (suc n) table = length-put (laidRun first start step n table) _ _ ∙ length-laid-run first start step n table
 
-parent-head : (S : List Schema) (s : Bytes) (b : Before) (at : ℕ) → at < length s → getD s at 0 ≡ 0x07 → headAt S s b at ≡ ok (dataHead 1 0 0 (at + 1))
-unfolding headAt headBy whole check tokenOf
-parent-head S s b at l t = rw (t, le-leb (at + 1) (length s) (omega arith)) refl
-
 pub parent-ends : (S : List Schema) (s : Bytes) (at e : ℕ) → getD s at 0 ≡ 0x07 → rowEnd (columnsAt S 0) s (at + 1) ≡ ok e → endBy S s at (tokenOf (getD s at 0)) ≡ ok e
 unfolding endBy tokenOf
 parent-ends S s at e t q = rw t q
@@ -106,7 +102,7 @@ module _ (S : List Schema) (s : Bytes) (step : ℕ) (top : 1 ≤ length S) (byte
       AtElement S s entry₀ (put table (4 * rows) (rowNumbers (entry 1 0 (at + 1) 0))) (at + step) (rows + 1) nothing
   parent-step {entry₀} {table} {at} {rows} {p} one l t a =
       row-ended S s entry₀ table at rows p a (at + step)
-      (head-ahead S s entry₀ table at rows p a 1 0 0 (at + 1) top bytes (parent-head S s (beforeOf p) at (omega arith) t)) refl (ends one at l)
+      (head-ahead S s entry₀ table at rows p a 1 0 0 (at + 1) top bytes (head-parent S s (beforeOf p) at (omega arith) t)) refl (ends one at l)
 
   pub run-element : {entry₀ table : List ℕ} {start rows : ℕ} {p : Pending} (n : ℕ) → Run s start step n → AtElement S s entry₀ table start rows p →
       AtElement S s entry₀ (laidRun rows start step n table) (start + n * step) (rows + n) (pick (eqb n 0) p nothing)

@@ -69,10 +69,9 @@ module _ (u : Bool) (cs : List Column) (s : Bytes) (start at : ℕ) {r : Read �
       h ∙ ap (λ (j : ℕ). dataPassed u cs s start j at) (e ∙ z)
 
 -- what the quick way says is the end
-pub end-said : (u : Bool) (cs : List Column) (s : Bytes) (start : ℕ) {r : ℕ} → Says (dataEnd u cs s start) r → (r ≡ 0 → ⊥) → EndIs u cs s start r
-end-said u cs s start (inl z) n e q = absurd (n z)
-end-said u cs s start (inr x) n e q = ok-ok (sym x ∙ q)
-
 pub said-end : {r : Read ℕ} {e : ℕ} → Says r e → (e ≡ 0 → ⊥) → r ≡ ok e
 said-end (inl z) n = absurd (n z)
 said-end (inr x) n = x
+
+pub end-said : (u : Bool) (cs : List Column) (s : Bytes) (start : ℕ) {r : ℕ} → Says (dataEnd u cs s start) r → (r ≡ 0 → ⊥) → EndIs u cs s start r
+end-said u cs s start says n e q = ok-ok (sym (said-end says n) ∙ q)

@@ -1,4 +1,4 @@
--- Promise: the row table that a caller lends (document 01, "Rows"): four numbers a row.
+-- Promise: the rows of a section, checked, and in the table that a caller lends (document 01, "Rows"): four numbers a row.
 -- Assumes nothing.
 use Prim.Native.Nat.{ℕ, _+_, _*_, _/_, _<_}
 use mathlib.Core.Path.{_≡_}
@@ -27,20 +27,24 @@ tableNumbers (r ∷ rs) = rowNumbers r ++ tableNumbers rs
 abbrev pub roomFor : ℕ → ℕ
 roomFor numbers = numbers / 4
 
--- The rows of a section that fit into a table of so many numbers: the section's errors, and last the room (16, with the rows needed).
-unfoldable pub rowsFitting : List Schema → Bytes → (numbers : ℕ) → Read (List Row)
-rowsFitting schemas s numbers = do
-  rs ← about input.Section (section schemas s)
-  _ ← about input.Table (check (leb (length rs) (roomFor numbers)) 16 (length rs))
-  ok rs
-
--- With the schema file in front: the sizes (19, the file's before the section's), the file's own errors, then the section.
-unfoldable pub rowsRead : (file section : Bytes) → (numbers : ℕ) → Read (List Row)
-rowsRead file s numbers = do
+-- The rows of a section under a schema file, or what is refused: the sizes (19, the file's before the section's), the file's own errors, the
+-- section's.
+unfoldable pub rowsChecked : (file section : Bytes) → Read (List Row)
+rowsChecked file s = do
   _ ← about input.Schema (sized file)
   _ ← about input.Section (sized s)
   schemas ← about input.Schema (readSchemas file)
-  rowsFitting schemas s numbers
+  about input.Section (section schemas s)
+
+-- rows that fit into a table of so many numbers (16, with the rows needed)
+abbrev pub fitting : (numbers : ℕ) → List Row → Read (List Row)
+fitting numbers rs = do
+  _ ← about input.Table (check (leb (length rs) (roomFor numbers)) 16 (length rs))
+  ok rs
+
+-- The same rows in a table: all of that, and last the room.
+unfoldable pub rowsListed : (file section : Bytes) → (numbers : ℕ) → Read (List Row)
+rowsListed file s numbers = rowsChecked file s >>= fitting numbers
 
 -- the table afterwards: the rows and then what it held; after an error all that it held
 unfoldable pub tableAfter : Read (List Row) → List ℕ → List ℕ
@@ -57,12 +61,16 @@ abbrev pub toldRows : RowsRead → Read ℕ
 toldRows (read.Rows n) = ok n
 toldRows (read.Refused e) = refused e
 
--- What the reader of a section promises: how many rows or the error, and what the table then holds.
+-- What the call that lists promises: how many rows or the error, and what the table then holds.
 pub record Listed (rs : Read (List Row)) (entry exit : List ℕ) (answer : RowsRead) : Type 0 where
   pub answers : toldRows answer ≡ rowCount rs
   pub leaves : exit ≡ tableAfter rs entry
 
 -- Inner.
+
+-- the rows of a section under these schemas, in a table
+abbrev pub rowsFitting : List Schema → Bytes → (numbers : ℕ) → Read (List Row)
+rowsFitting schemas s numbers = about input.Section (section schemas s) >>= fitting numbers
 
 -- a row whose numbers have room in the table
 pub record SmallRow (r : Row) : Type 0 where

@@ -5,6 +5,7 @@ ghost use Rattle.tree.specs.Table.{schemasIn};
 ghost use Rattle.shapes.specs.Shapes.{Sound};
 use schema::children::child_number;
 use schema::children::id_in;
+use shapes::shapes::SCHEMAS;
 
 // The number of the schema with a child id; 0 where there is none. That of the last child is looked at first.
 pub(crate) fn find_child(slots: &[u64; 512], schemas: usize, last: usize, id: usize) -> usize
@@ -13,7 +14,7 @@ pub(crate) fn find_child(slots: &[u64; 512], schemas: usize, last: usize, id: us
 {
     if 0 < last {
         if last < schemas {
-            if id_in(slots[256 + last]) == id as u64 {
+            if id_in(slots[SCHEMAS + last]) == id as u64 {
                 return last;
             }
         }

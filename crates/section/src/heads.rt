@@ -11,6 +11,7 @@ ghost use Rattle.grammar.specs.Grammar.{other};
 ghost use Rattle.grammar.specs.Reader.{childToken, changeToken, deleteToken, doneToken};
 use crate::children::find_child;
 use schema::children::id_in;
+use shapes::shapes::SCHEMAS;
 use wire::error::Error;
 use wire::error::ErrorKind;
 use wire::error::Input;
@@ -76,7 +77,7 @@ fn paired_id(slots: &[u64; 512], section: &[u8], at: usize, child: usize) -> Int
         IntRead::Refused(e) => IntRead::Refused(e),
         IntRead::Int(id) => {
             if 0 < child {
-                if id_in(slots[256 + child]) == id as u64 {
+                if id_in(slots[SCHEMAS + child]) == id as u64 {
                     return IntRead::Int(id);
                 }
             }

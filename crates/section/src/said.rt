@@ -13,6 +13,7 @@ use crate::table::id_behind;
 use quick::ends::quick_row;
 use quick::ends::quick_update;
 use schema::children::id_in;
+use shapes::shapes::SCHEMAS;
 use wire::bytes::lacks;
 
 // An element with row data: the kind of its row, the number of its schema, its end. An end of 0 says nothing.
@@ -70,7 +71,7 @@ pub(crate) fn element_said(
     }
     if token == CHANGE {
         if 0 < child {
-            if id_in(slots[256 + child]) == id as u64 {
+            if id_in(slots[SCHEMAS + child]) == id as u64 {
                 let end = quick_update(shapes, child, section, at + 5);
                 return Said {
                     kind: 3,

@@ -18,7 +18,7 @@ returns-3 : tie.Need-returns-3
 returns-3 c =
     let if1 = c .before .before .before .before .before .if1 in
     let if2 = c .before .before .before .before .if2 in
-    rw (sizes-fit _ _ _ (if1 .left) (if2 .left)) (c .before .before .read-section .ensures)
+    rw (sizes-fit _ _ _ (if1 .left) (if2 .left)) (c .before .before .list-section .ensures)
 
 pub list-rows-spec : {M : Type 1} → statement M
 list-rows-spec = tie.close (tie.spec (λ c κs. search needs) returns (λ c κs. search needs) returns-2 (λ c κs. search needs) (λ c. search needs) returns-3)

@@ -2,8 +2,8 @@
 -- Assumes nothing.
 use native.Mathlib.Omega.{arith}
 use borrow.Author.Needs.{needs}
-use Rattle.section.proofs.read.list_rows.Statement.{statement}
-use Rattle.section.proofs.read.list_rows.Tie as tie
+use Rattle.section.proofs.list.list_rows.Statement.{statement}
+use Rattle.section.proofs.list.list_rows.Tie as tie
 
 mul-if1 : tie.Need-mul-if1
 mul-if1 c =

@@ -15,8 +15,8 @@ use Rattle.section.specs.Table.{toldRows}
 use Rattle.section.proofs.Laid.{length-laid}
 use Rattle.section.proofs.Listing.{rows-told, error-told, fitting-refused, fitting-full, fitting-count}
 use borrow.Author.Needs.{needs}
-use Rattle.section.proofs.read.list_noting.Statement.{statement}
-use Rattle.section.proofs.read.list_noting.Tie as tie
+use Rattle.section.proofs.list.list_noting.Statement.{statement}
+use Rattle.section.proofs.list.list_noting.Tie as tie
 
 told : (a : tie.After-n) → (rs : List Row) × (section (schemasIn 0 ((a .before .before .before .before .before .before .before .before .before .before .before .args) .schemas) ((a .before .before .before .before .before .before .before .before .before .before .before .args) .slots .now)) ((a .before .before .before .before .before .before .before .before .before .before .before .args) .section .now) ≡ ok rs) × ((a .n) .given .0 .0 ≡ length rs)
 told a = rows-told (section (schemasIn 0 ((a .before .before .before .before .before .before .before .before .before .before .before .args) .schemas) ((a .before .before .before .before .before .before .before .before .before .before .before .args) .slots .now)) ((a .before .before .before .before .before .before .before .before .before .before .before .args) .section .now)) ((a .n) .given .0 .0) (ap toldRows (sym ((a .n) .given .1)) ∙ (a .before .before .before .before .scan) .ensures .0 .answers)

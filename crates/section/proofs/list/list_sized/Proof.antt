@@ -4,8 +4,8 @@ use mathlib.Core.Path.{_≡_, sym}
 use native.Mathlib.Omega.{arith}
 use Rattle.section.proofs.Noting.{zeros, blank-of}
 use borrow.Author.Needs.{needs}
-use Rattle.section.proofs.read.list_sized.Statement.{statement}
-use Rattle.section.proofs.read.list_sized.Tie as tie
+use Rattle.section.proofs.list.list_sized.Statement.{statement}
+use Rattle.section.proofs.list.list_sized.Tie as tie
 
 slice-aggregate-list-noting : tie.Need-slice-aggregate-list-noting
 slice-aggregate-list-noting c = sym (zeros 1024)
