@@ -36,7 +36,7 @@ int main(void)
     uint32_t table[ROW_NUMBERS];
 
     /* The section is read whole: where this succeeds, every row of it is sound. */
-    uint32_t code = adtg_read_section(schema, sizeof schema, section, sizeof section, table, ROW_NUMBERS, out);
+    uint32_t code = adtg_list_section(schema, sizeof schema, section, sizeof section, table, ROW_NUMBERS, out);
     if (code != 0)
         return refused("section", code, out[0]);
     printf("rows: %llu\n", (unsigned long long)out[0]);

@@ -1,4 +1,5 @@
-/* example.c: reads a row section and looks up a column of its parent rows through a plan, row by row and all in one call.
+/* example.c: checks a row section, lists its rows, and looks up a column of its parent rows through a plan, row by row and all in
+ * one call.
  *
  * The bytes stand in the program, so that it runs without files; c/run.sh builds it and compares what it prints. */
 #include <stdio.h>
@@ -6,7 +7,7 @@
 
 #include "adtg.h"
 
-enum { ROOM = 16, ROW_NUMBERS = 4, SPAN_NUMBERS = 2, COLUMN = 0 };
+enum { ROW_NUMBERS = 4, SPAN_NUMBERS = 2, COLUMN = 0 };
 
 /* A four-byte integer, and a chapter with child id 7 whose rows have one byte. */
 static const uint8_t schema[] = {0x02, 0x03, 0x00, 0x88, 0x01, 0x00, 0x07, 0x01, 0x11, 0x00};
@@ -32,6 +33,17 @@ static void must(const char *call, uint32_t code, uint64_t offset, uint64_t inpu
                (unsigned long long)input);
         exit(1);
     }
+}
+
+/* Room for so many rows of a table or of spans, and for one more: a pointer that is lent is never null. */
+static uint32_t *room(uint64_t rows, size_t numbers)
+{
+    uint32_t *made = calloc(rows + 1, numbers * sizeof *made);
+    if (made == NULL) {
+        printf("no memory\n");
+        exit(1);
+    }
+    return made;
 }
 
 static void print_bytes(const uint8_t *bytes, uint64_t start, uint64_t end)
@@ -64,9 +76,9 @@ static void print_column(const adtg_plan *plan, const uint8_t *row, size_t lengt
 static void print_batch(const adtg_plan *plan, const uint32_t *table, size_t rows)
 {
     uint64_t out[16];
-    uint32_t spans[ROOM * SPAN_NUMBERS];
+    uint32_t *spans = room(rows, SPAN_NUMBERS);
     uint32_t code = adtg_find_column(plan->numbers, section, sizeof section, table, rows * ROW_NUMBERS, ADTG_PARENTS,
-                                     COLUMN, spans, ROOM * SPAN_NUMBERS, out);
+                                     COLUMN, spans, rows * SPAN_NUMBERS, out);
     must("batch", code, out[0], out[1]);
     printf("column %d of %llu parent rows:", COLUMN, (unsigned long long)out[0]);
     for (uint64_t number = 0; number < out[0]; number++) {
@@ -81,12 +93,12 @@ static void print_batch(const adtg_plan *plan, const uint32_t *table, size_t row
             print_bytes(section, span[0], span[1]);
     }
     printf("\n");
+    free(spans);
 }
 
 int main(void)
 {
     uint64_t out[16];
-    uint32_t table[ROOM * ROW_NUMBERS];
 
     /* The plan of schema 0 is made once and can be kept. */
     adtg_plan_answer made = adtg_make_plan(schema, sizeof schema, 0);
@@ -97,11 +109,16 @@ int main(void)
     must("check", code, out[0], out[1]);
     printf("the plan is that of the schema\n");
 
-    /* The section is read whole: where this succeeds, every row of it is sound. */
-    code = adtg_read_section(schema, sizeof schema, section, sizeof section, table, ROOM * ROW_NUMBERS, out);
+    /* The section is checked whole: where this succeeds, every row of it is sound. */
+    code = adtg_check_section(schema, sizeof schema, section, sizeof section, out);
     must("section", code, out[0], out[1]);
     uint64_t rows = out[0];
     printf("%llu rows\n", (unsigned long long)rows);
+
+    /* Its rows are listed in a table that has just the room. */
+    uint32_t *table = room(rows, ROW_NUMBERS);
+    code = adtg_list_section(schema, sizeof schema, section, sizeof section, table, rows * ROW_NUMBERS, out);
+    must("table", code, out[0], out[1]);
 
     for (uint64_t number = 0; number < rows; number++) {
         const uint32_t *row = table + ROW_NUMBERS * number;
@@ -114,6 +131,7 @@ int main(void)
 
     /* The same column of all parent rows: the fields are told by where they stand in the section. */
     print_batch(&made.plan, table, rows);
+    free(table);
 
     /* Against another schema the plan is refused. */
     code = adtg_check_plan(made.plan, changed_schema, sizeof changed_schema, 0, out);

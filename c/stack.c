@@ -18,6 +18,7 @@ enum {
     STACK = 384 * 1024,      /* bytes of the thread's stack */
     FRAME = 256,             /* bytes that the measuring function's own frame may have */
     KNOWN = 100000,          /* bytes that the trial of the measure takes */
+    MOST = 96 * 1024,        /* bytes that adtg.h may allow any call */
     LAID = 1 << 20,          /* bytes of all inputs together */
     ROOM = 1 << 21,          /* bytes of an output, numbers of a table */
     WIDE = 64,               /* columns of a wide schema */
@@ -83,9 +84,14 @@ static uint32_t write_schema(void) { return adtg_write_schema(numbers, numbers_l
 
 static uint32_t schema_numbers(void) { return adtg_schema_numbers(file.bytes, file.length, table, ROOM, out); }
 
-static uint32_t read_section(void)
+static uint32_t check_section(void)
 {
-    return adtg_read_section(file.bytes, file.length, data.bytes, data.length, table, ROOM, out);
+    return adtg_check_section(file.bytes, file.length, data.bytes, data.length, out);
+}
+
+static uint32_t list_section(void)
+{
+    return adtg_list_section(file.bytes, file.length, data.bytes, data.length, table, ROOM, out);
 }
 
 static uint32_t look_up(void)
@@ -163,7 +169,8 @@ static struct call {
     {"adtg_schema_of_child", schema_of_child, 0, 0},
     {"adtg_write_schema", write_schema, 0, 0},
     {"adtg_schema_numbers", schema_numbers, 0, 0},
-    {"adtg_read_section", read_section, 0, 0},
+    {"adtg_check_section", check_section, 0, 0},
+    {"adtg_list_section", list_section, 0, 0},
     {"adtg_look_up", look_up, 0, 0},
     {"adtg_field_count", field_count, 0, 0},
     {"adtg_row_end", row_end, 0, 0},
@@ -364,7 +371,7 @@ static void set(struct input of_file, struct input of_data, size_t of_number, si
     numbers_length = adtg_schema_numbers(file.bytes, file.length, numbers, ROOM, out) == 0 ? out[0] : WIDE;
     /* Where the data are no section they are one row, as far as a table says. */
     memcpy(rows, (uint32_t[]){ADTG_PARENT, 0, 0, 0}, 4 * sizeof rows[0]);
-    rows_length = adtg_read_section(file.bytes, file.length, data.bytes, data.length, rows, ROOM, out) == 0 ? 4 * out[0] : 4;
+    rows_length = adtg_list_section(file.bytes, file.length, data.bytes, data.length, rows, ROOM, out) == 0 ? 4 * out[0] : 4;
     for (size_t i = 0; i < WIDE; i++) {
         entries[3 * i] = i + 1 < WIDE ? ADTG_ENTRY_VALUE : column % 3;
         entries[3 * i + 1] = 0;
@@ -410,6 +417,8 @@ int main(int count, char **words)
         printf("%s %zu\n", call->name, call->taken);
         if (!call->answered)
             fail("no input was taken by ", call->name);
+        if (allowed(header, call->name) > MOST)
+            fail("adtg.h allows too much to ", call->name);
         if (call->taken > allowed(header, call->name))
             fail("more than adtg.h allows is taken by ", call->name);
     }

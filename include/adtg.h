@@ -19,7 +19,8 @@
  *
  * Stack: measured on x86-64 by c/stack.c and rounded up; arguments are included, a KB has 1,024 bytes. Where the C library's
  * memcpy and memset are bound only when they are first called, that call takes some 3 KB more.
- *     adtg_read_section: at most 92 KB
+ *     adtg_list_section: at most 92 KB
+ *     adtg_check_section: at most 27 KB
  *     every other call: at most 11 KB
  */
 #ifndef ADTG_H
@@ -160,6 +161,11 @@ uint32_t adtg_write_schema(const uint32_t *numbers, size_t count,
 uint32_t adtg_schema_numbers(const uint8_t *file, size_t length,
                              uint32_t *table, size_t capacity, uint64_t out[16]);
 
+/* Checks a whole row section, and counts its rows.
+ * out: rows. */
+uint32_t adtg_check_section(const uint8_t *file, size_t file_length,
+                            const uint8_t *section, size_t section_length, uint64_t out[16]);
+
 /* Kinds of rows in the table of a section. */
 enum adtg_row {
     ADTG_PARENT = 1,
@@ -168,11 +174,13 @@ enum adtg_row {
     ADTG_CHILD_DELETED = 4
 };
 
-/* Reads a whole row section into a table, four numbers a row: its kind, its child id (0 for a parent), where its original data
- * start in the section, and where its update data start (0 but for a changed row). Numbers behind the last row stay as they were; an
- * error leaves the whole table. Of all calls this one takes by far the most stack.
+/* Checks a whole row section and lists its rows in a table, four numbers a row: its kind, its child id (0 for a parent),
+ * where its original data start in the section, and where its update data start (0 but for a changed row). Numbers behind
+ * the last row stay as they were; an error leaves the whole table. Refuses what `adtg_check_section` refuses, with the same
+ * error. Last comes the room: error 16 names the table, and the offset is the rows that it needs room for. Of all calls this
+ * one takes by far the most stack.
  * out: rows. */
-uint32_t adtg_read_section(const uint8_t *file, size_t file_length,
+uint32_t adtg_list_section(const uint8_t *file, size_t file_length,
                            const uint8_t *section, size_t section_length,
                            uint32_t *table, size_t table_length, uint64_t out[16]);
 
@@ -305,7 +313,7 @@ static inline adtg_found adtg_find(const adtg_plan *plan, const uint8_t *row, si
 #define ADTG_CHAPTER_SPAN UINT32_C(4294967294)
 
 /* Looks up one column in the original data of every row of one owner, by the numbers of a plan. `rows` is a table as
- * `adtg_read_section` fills it, of the same section: four numbers a row, with only as many rows as it answered. Each look-up is that
+ * `adtg_list_section` fills it, of the same section: four numbers a row, with only as many rows as it answered. Each look-up is that
  * of `adtg_planned_look_up` on the section from the row's start on. `spans` then has two numbers a row, in the rows' order: start and
  * end of the field in the section. Numbers behind the last stay as they were; an error leaves them all.
  * The first row that is refused refuses the call, and the offset is the place in the section. Last comes the room: error 16 names the

@@ -39,7 +39,15 @@ uint32_t rb_read_section(const uint8_t *sheet, size_t sheet_n, const uint8_t *se
                          uint32_t *table, size_t numbers, uint32_t *out)
 {
     uint64_t o[16];
-    uint32_t code = adtg_read_section(sheet, sheet_n, section, n, table, numbers, o);
+    uint32_t code = adtg_list_section(sheet, sheet_n, section, n, table, numbers, o);
+    *out = (uint32_t)o[0];
+    return code;
+}
+
+uint32_t rb_check_section(const uint8_t *sheet, size_t sheet_n, const uint8_t *section, size_t n, uint32_t *out)
+{
+    uint64_t o[16];
+    uint32_t code = adtg_check_section(sheet, sheet_n, section, n, o);
     *out = (uint32_t)o[0];
     return code;
 }

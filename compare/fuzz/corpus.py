@@ -32,7 +32,9 @@ def parts(call, words):
         return {"file": run(words[0])}
     if call == "write_sheet":
         return {"data": b"".join(struct.pack("<I", int(number)) for number in whole(words[0]))}
-    if call == "read_section":
+    if call == "check_section":
+        return {"file": run(words[0]), "data": run(words[1])}
+    if call == "list_section":
         return {"file": run(words[0]), "data": run(words[1]), "space": int(words[2])}
     start = {"file": run(words[0]), "number": int(words[1])}
     if call == "find_column":

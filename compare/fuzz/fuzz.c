@@ -36,7 +36,7 @@ enum slot { FILE_SLOT, DATA_SLOT, FIRST_SLOT, SECOND_SLOT, TABLE_SLOT, OUTPUT_SL
 enum call {
     READ_HEADER, WRITE_HEADER, WRITE_HEADER_SHORT, READ_OPTIONS, WRITE_OPTIONS, READ_SCHEMA, SCHEMA_COLUMNS, SCHEMA_COLUMN,
     SCHEMA_OF_CHILD, WRITE_SCHEMA, SCHEMA_NUMBERS, LOOK_UP, FIELD_COUNT, ROW_END, LOOK_UPDATE, UPDATE_END, CURRENT,
-    WRITE_ORIGINAL, WRITE_UPDATE, READ_SECTION, MAKE_PLAN, CHECK_PLAN, FIXED_PLACE, FIND, OPEN_ROW,
+    WRITE_ORIGINAL, WRITE_UPDATE, CHECK_SECTION, LIST_SECTION, MAKE_PLAN, CHECK_PLAN, FIXED_PLACE, FIND, OPEN_ROW,
     FORGED_PLACE, FORGED_FIND, FORGED_OPEN, FIND_COLUMN, FORGED_FIND_COLUMN
 };
 
@@ -434,21 +434,27 @@ static void check_rows(const struct input *in, const uint32_t *table, size_t row
             need(adtg_update_end(file, file_length, number, data, length, at, out) == 0, "update data that are refused");
             at = out[0];
         }
-        count(READ_SECTION, kind, row, id);
+        count(LIST_SECTION, kind, row, id);
     }
     need(at + 1 == length && data[at] == END, "elements without a row");
 }
 
+/* A section is listed as it is checked, with the same count or the same error, but for the room of the table. */
 static void section(const struct input *in)
 {
-    uint64_t out[16];
+    uint64_t out[16], checked_out[16];
     size_t space = in->space;
+    spoil(checked_out);
+    uint32_t checked = adtg_check_section(in->file.at, in->file.length, in->data.at, in->data.length, checked_out);
+    check_reply(CHECK_SECTION, checked, checked_out, 1);
+    need(checked != ADTG_CAPACITY, "a check is refused for its room");
     uint32_t *table = lend_table(space, in->guard_in_front);
     spoil(out);
-    uint32_t code = adtg_read_section(in->file.at, in->file.length, in->data.at, in->data.length, table, space, out);
-    check_reply(READ_SECTION, code, out, 1);
+    uint32_t code = adtg_list_section(in->file.at, in->file.length, in->data.at, in->data.length, table, space, out);
+    check_reply(LIST_SECTION, code, out, 1);
     if (code == ADTG_CAPACITY) {
         table_is_kept(table, 0, space);
+        need(checked == 0 && checked_out[0] == out[0], "a table is refused for rows that are not there");
         need(out[0] > space / ROW_NUMBERS && out[0] <= in->data.length, "a table is refused that has room");
         uint64_t rows = out[0];
         space = ROW_NUMBERS * rows;
@@ -456,9 +462,10 @@ static void section(const struct input *in)
             return;
         }
         table = lend_table(space, in->guard_in_front);
-        code = adtg_read_section(in->file.at, in->file.length, in->data.at, in->data.length, table, space, out);
+        code = adtg_list_section(in->file.at, in->file.length, in->data.at, in->data.length, table, space, out);
         need(code == 0 && out[0] == rows, "a table is refused that has the room asked for");
     }
+    need(code == checked && memcmp(out, checked_out, sizeof out) == 0, "a section is checked and listed in two ways");
     if (code == 0) {
         need(out[0] <= space / ROW_NUMBERS, "rows outside the table");
         check_rows(in, table, out[0]);
@@ -629,7 +636,7 @@ static void batches(const struct input *in)
     size_t space = in->data.length * ROW_NUMBERS;
     if (space * sizeof(uint32_t) <= AREA) {
         uint32_t *table = lend_table(space, in->guard_in_front);
-        uint32_t code = adtg_read_section(in->file.at, in->file.length, in->data.at, in->data.length, table, space, out);
+        uint32_t code = adtg_list_section(in->file.at, in->file.length, in->data.at, in->data.length, table, space, out);
         if (code == 0) {
             size_t count = ROW_NUMBERS * out[0];
             /* Only as many numbers as there are rows, again at the guard page. */

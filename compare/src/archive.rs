@@ -146,10 +146,15 @@ pub fn write_update(
     told(raw::write_update(file, number, entries, values, place, output).decode())
 }
 
-/// The archive's reading of a whole row section: how many rows stand at the start of `table`,
-/// four numbers each.
-pub fn read_section(file: &[u8], section: &[u8], table: &mut [u32]) -> Reply<usize> {
-    told(raw::read_section(file, section, table).decode())
+/// The archive's check of a whole row section: how many rows it has.
+pub fn check_section(file: &[u8], section: &[u8]) -> Reply<usize> {
+    told(raw::check_section(file, section).decode())
+}
+
+/// The archive's list of the rows of a section: how many stand at the start of `table`, four
+/// numbers each.
+pub fn list_section(file: &[u8], section: &[u8], table: &mut [u32]) -> Reply<usize> {
+    told(raw::list_section(file, section, table).decode())
 }
 
 /// The archive's plan of one schema of a file.

@@ -12,7 +12,7 @@ use crate::reading::options::read_options;
 use crate::reading::plan::make_plan;
 use crate::reading::row::{field_count, look_up};
 use crate::reading::schema::{read_schema, write_schema, SchemaFile};
-use crate::reading::section::{read_section, ROW_NUMBERS};
+use crate::reading::section::{check_section, list_section, ROW_NUMBERS};
 use crate::reading::update::current;
 use crate::reading::{Error, Input};
 use crate::text::{agree, hex, parse_hex, Text};
@@ -106,7 +106,8 @@ fn call_of(name: &str) -> Option<Call> {
         "fixed_place" => fixed_place_line,
         "write_original" => write_original_line,
         "write_update" => write_update_line,
-        "read_section" => section_line,
+        "check_section" => check_section_line,
+        "list_section" => list_section_line,
         "find_column" => find_column_line,
         _ => return None,
     })
@@ -278,21 +279,30 @@ fn write_update_line(inputs: &[&str]) -> Result<Answers, String> {
     })
 }
 
-fn section_line(inputs: &[&str]) -> Result<Answers, String> {
+fn check_section_line(inputs: &[&str]) -> Result<Answers, String> {
+    let [schema, section] = take(inputs)?;
+    let (schema, section) = (parse_hex(schema)?, parse_hex(section)?);
+    Ok(Answers {
+        reading: count_text(&check_section(&schema, &section)),
+        archive: count_text(&archive::check_section(&schema, &section)),
+    })
+}
+
+fn list_section_line(inputs: &[&str]) -> Result<Answers, String> {
     let [schema, section, numbers] = take(inputs)?;
     let (schema, section) = (parse_hex(schema)?, parse_hex(section)?);
     let before: Vec<u32> = (0..parse_number(numbers)?).map(|at| !at).collect();
     let mut table = before.clone();
-    let rows = read_section(&schema, &section, &mut table);
+    let rows = list_section(&schema, &section, &mut table);
     Ok(Answers {
         reading: rows_text(&rows, &before, &table),
-        archive: archive_section(&schema, &section, &before),
+        archive: archive_list_section(&schema, &section, &before),
     })
 }
 
-fn archive_section(schema: &[u8], section: &[u8], before: &[u32]) -> String {
+fn archive_list_section(schema: &[u8], section: &[u8], before: &[u32]) -> String {
     let mut table = before.to_vec();
-    let rows = archive::read_section(schema, section, &mut table);
+    let rows = archive::list_section(schema, section, &mut table);
     rows_text(&rows, before, &table)
 }
 
@@ -412,13 +422,21 @@ fn written_text<E: Text>(
     text
 }
 
+/// How many rows a section has, or its error.
+fn count_text<E: Text>(rows: &Result<usize, E>) -> String {
+    match rows {
+        Ok(count) => format!("rows {count}"),
+        Err(error) => error.text(),
+    }
+}
+
 /// The rows that a table holds, or the reader's error. Says so if numbers past the rows
 /// changed.
 fn rows_text<E: Text>(rows: &Result<usize, E>, before: &[u32], table: &[u32]) -> String {
-    let (mut text, filled) = match rows {
-        Ok(count) => (format!("rows {count}"), count.saturating_mul(ROW_NUMBERS)),
-        Err(error) => (error.text(), 0),
-    };
+    let mut text = count_text(rows);
+    let filled = rows
+        .as_ref()
+        .map_or(0, |count| count.saturating_mul(ROW_NUMBERS));
     let Some(numbers) = table.get(..filled) else {
         return format!("{text}, past the table");
     };

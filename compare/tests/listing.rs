@@ -9,7 +9,7 @@ use std::process::Command;
 
 use compare::generate;
 use compare::random::Random;
-use compare::reading::section::{read_section, ROW_NUMBERS};
+use compare::reading::section::{list_section, ROW_NUMBERS};
 use compare::reading::{Error, Input};
 use compare::trials::damage;
 
@@ -105,7 +105,7 @@ fn wanted(sheet: &[u8], rows: &[u8]) -> String {
     if rows.len() > MAX_FILE {
         return "rows refused 19 at 0\n".to_string();
     }
-    match read_section(sheet, rows, &mut table) {
+    match list_section(sheet, rows, &mut table) {
         Ok(count) => {
             let mut text = format!("rows {count}\n");
             for row in table[..ROW_NUMBERS * count].chunks(ROW_NUMBERS) {

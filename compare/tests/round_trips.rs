@@ -10,7 +10,7 @@ use compare::reading::row::{field_count, look_up, row_end, Answer};
 use compare::reading::schema::{
     read_schema, schema_column, schema_columns, schema_numbers, schema_of_child, Counts, SchemaFile,
 };
-use compare::reading::section::read_section;
+use compare::reading::section::{check_section, list_section};
 use compare::reading::update::{current, look_update, update_end, Change, Current};
 use compare::reading::{Error, ErrorCode, Input};
 use compare::trials::damage;
@@ -301,14 +301,15 @@ fn a_section_gives_its_table() {
         let (schema, file) = generate::schema_file(&mut random);
         let (section, wanted) = generate::section(&mut random, &schema, &file);
         let rows = wanted.len() / 4;
+        assert_eq!(check_section(&schema, &section), Ok(rows));
         let mut table = vec![0xAAAA_AAAA; wanted.len() + 3];
-        assert_eq!(read_section(&schema, &section, &mut table), Ok(rows));
+        assert_eq!(list_section(&schema, &section, &mut table), Ok(rows));
         assert_eq!(table[..wanted.len()], wanted);
         assert_eq!(table[wanted.len()..], [0xAAAA_AAAA; 3]);
         if let Some(room) = wanted.len().checked_sub(1) {
             let mut table = vec![0xAAAA_AAAA; room];
             let error = Error::new(ErrorCode::Capacity, rows, Input::Table);
-            assert_eq!(read_section(&schema, &section, &mut table), Err(error));
+            assert_eq!(list_section(&schema, &section, &mut table), Err(error));
             assert_eq!(table, vec![0xAAAA_AAAA; room]);
         }
     }
@@ -322,9 +323,16 @@ fn damage_never_breaks_a_reader() {
         let (mut section, wanted) = generate::section(&mut random, &schema, &file);
         damage(&mut random, &mut section);
         let mut table = vec![7; wanted.len()];
-        if read_section(&schema, &section, &mut table).is_err() {
+        let listed = list_section(&schema, &section, &mut table);
+        if listed.is_err() {
             assert_eq!(table, vec![7; wanted.len()]);
         }
+        // A check needs no room.
+        let counted = match listed {
+            Err(error) if error.code == ErrorCode::Capacity => Ok(error.offset),
+            other => other,
+        };
+        assert_eq!(check_section(&schema, &section), counted);
         let (number, columns) = any_schema(&mut random, &file);
         let (changes, values) = generate::update_entries(&mut random, columns);
         let mut update = generate::update_row(&schema, number, &changes, &values);

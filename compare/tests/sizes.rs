@@ -8,7 +8,7 @@ use compare::reading::row::{field_count, look_up, row_end, Answer};
 use compare::reading::schema::{
     read_schema, schema_column, schema_columns, schema_numbers, schema_of_child,
 };
-use compare::reading::section::{read_section, END, PARENT};
+use compare::reading::section::{check_section, list_section, END, PARENT};
 use compare::reading::update::{current, look_update, update_end};
 use compare::reading::{Error, ErrorCode, Input, MAX_INPUT};
 
@@ -42,8 +42,10 @@ fn an_input_over_the_limit_is_named() {
     assert_eq!(current(&large, 9, &large, &large, 9), over(Input::Schema));
     assert_eq!(current(&BAD, 9, &large, &large, 9), over(Input::Update));
     assert_eq!(current(&BAD, 9, &large, &[], 9), over(Input::Row));
-    assert_eq!(read_section(&large, &large, &mut []), over(Input::Schema));
-    assert_eq!(read_section(&BAD, &large, &mut []), over(Input::Section));
+    assert_eq!(check_section(&large, &large), over(Input::Schema));
+    assert_eq!(check_section(&BAD, &large), over(Input::Section));
+    assert_eq!(list_section(&large, &large, &mut []), over(Input::Schema));
+    assert_eq!(list_section(&BAD, &large, &mut []), over(Input::Section));
     for writer in [write_original, write_update] {
         let schema = writer(&large, 9, &[], &large, &mut [], 9);
         assert_eq!(schema, over(Input::Schema));
@@ -68,9 +70,12 @@ fn sections_and_their_files_are_measured_before_they_are_read() {
         (&SCHEMA, &large, Input::Section),
     ] {
         let error = Error::new(ErrorCode::Oversize, 0, input);
+        assert_eq!(check_section(schema, section), Err(error));
+        let of_archive = archive::check_section(schema, section);
+        assert_eq!(of_archive, Err(Fault::Error(error)));
         let mut table = [9; 5];
-        assert_eq!(read_section(schema, section, &mut table), Err(error));
-        let of_archive = archive::read_section(schema, section, &mut table);
+        assert_eq!(list_section(schema, section, &mut table), Err(error));
+        let of_archive = archive::list_section(schema, section, &mut table);
         assert_eq!(of_archive, Err(Fault::Error(error)));
         assert_eq!(table, [9; 5]);
     }
@@ -108,9 +113,11 @@ fn a_section_at_the_limit_is_read() {
     let mut section = vec![PARENT; MAX_INPUT];
     section[MAX_INPUT - 1] = END;
     let rows = MAX_INPUT - 1;
+    assert_eq!(check_section(&schema, &section), Ok(rows));
+    assert_eq!(archive::check_section(&schema, &section), Ok(rows));
     let error = Error::new(ErrorCode::Capacity, rows, Input::Table);
-    assert_eq!(read_section(&schema, &section, &mut [9; 7]), Err(error));
-    let of_archive = archive::read_section(&schema, &section, &mut [9; 7]);
+    assert_eq!(list_section(&schema, &section, &mut [9; 7]), Err(error));
+    let of_archive = archive::list_section(&schema, &section, &mut [9; 7]);
     assert_eq!(of_archive, Err(Fault::Error(error)));
 }
 
@@ -133,5 +140,6 @@ fn an_input_at_the_limit_is_read() {
         pair.copy_from_slice(&[0x07, 0x2A]);
     }
     let truncated = Error::new(ErrorCode::Truncated, MAX_INPUT, Input::Section);
-    assert_eq!(read_section(&SCHEMA, &large, &mut []), Err(truncated));
+    assert_eq!(check_section(&SCHEMA, &large), Err(truncated));
+    assert_eq!(list_section(&SCHEMA, &large, &mut []), Err(truncated));
 }

@@ -42,8 +42,9 @@ fn rows_of_a_section_and_their_columns_are_the_readings() {
         let (file, schemas) = generate::schema_file(&mut random);
         let (section, wanted) = generate::section(&mut random, &file, &schemas);
         let mut table = vec![0; wanted.len() + 3];
-        let rows = adtg::read_section(&file, &section, &mut table).expect("the section is sound");
+        let rows = adtg::list_section(&file, &section, &mut table).expect("the section is sound");
         assert_eq!(rows.numbers(), wanted);
+        assert_eq!(adtg::check_section(&file, &section), Ok(rows.len()));
         let listed: Vec<u32> = rows.iter().flat_map(numbers).collect();
         assert_eq!(listed, wanted);
         for row in rows.iter() {
@@ -73,7 +74,7 @@ fn batches_are_the_look_ups_row_by_row() {
         let (file, schemas) = generate::schema_file(&mut random);
         let (section, wanted) = generate::section(&mut random, &file, &schemas);
         let mut table = vec![0; wanted.len()];
-        let rows = adtg::read_section(&file, &section, &mut table).expect("the section is sound");
+        let rows = adtg::list_section(&file, &section, &mut table).expect("the section is sound");
         for number in 0..schemas.schema_count() {
             let id = schemas.id_at(number);
             let owner = id.map_or(Owner::Parents, Owner::Child);
@@ -121,7 +122,7 @@ fn current_values_of_changed_rows_are_the_readings() {
         let (file, schemas) = generate::schema_file(&mut random);
         let (section, wanted) = generate::section(&mut random, &file, &schemas);
         let mut table = vec![0; wanted.len()];
-        let rows = adtg::read_section(&file, &section, &mut table).expect("the section is sound");
+        let rows = adtg::list_section(&file, &section, &mut table).expect("the section is sound");
         for row in rows.iter().filter(|row| row.kind == RowKind::ChildChanged) {
             changed += 1;
             let number = schema_of(&schemas, &row);

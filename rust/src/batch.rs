@@ -50,14 +50,14 @@ impl Plan {
     /// and its offset says how many spans there are.
     ///
     /// ```
-    /// use adtg::{read_section, Owner, Plan, Span};
+    /// use adtg::{list_section, Owner, Plan, Span};
     ///
     /// # fn main() -> Result<(), adtg::Error> {
     /// // One byte, nullable; then three rows of it, the second null.
     /// let schema = [0x01, 0x11, 0x01];
     /// let section = [0x07, 0x80, 0x2A, 0x07, 0x00, 0x07, 0x80, 0x2B, 0x0F];
     /// let (mut table, mut spans) = ([0; 12], [0; 6]);
-    /// let rows = read_section(&schema, &section, &mut table)?;
+    /// let rows = list_section(&schema, &section, &mut table)?;
     /// let plan = Plan::make(&schema, 0)?;
     /// let spans = plan.find_column(&section, rows.numbers(), Owner::Parents, 0, &mut spans)?;
     /// let parts: Vec<Option<&[u8]>> = spans.iter().map(|span| span.part(&section)).collect();
@@ -161,7 +161,7 @@ fn decode(numbers: &[u32]) -> Option<Span> {
 mod tests {
     use super::*;
     use crate::tests::{ROW, S, SECTION, T};
-    use crate::{read_section, ErrorKind, Input};
+    use crate::{list_section, ErrorKind, Input};
 
     fn field(start: usize, end: usize) -> Span {
         Span::Field { start, end }
@@ -181,7 +181,7 @@ mod tests {
         section.extend(ROW);
         section.extend([0x07, 0x7F, 6, 0, 0, 0, 0x2B, 0x0F]);
         let mut table = vec![0; 8];
-        assert_eq!(read_section(&S, &section, &mut table).unwrap().len(), 2);
+        assert_eq!(list_section(&S, &section, &mut table).unwrap().len(), 2);
         (section, table)
     }
 

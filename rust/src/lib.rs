@@ -5,7 +5,7 @@
 //! panics on any input: a panic says that a library of another version was linked.
 //!
 //! ```
-//! use adtg::{read_section, ErrorKind, Owner, Plan, RowKind, ROW_NUMBERS};
+//! use adtg::{check_section, list_section, ErrorKind, Owner, Plan, RowKind, ROW_NUMBERS};
 //!
 //! # fn main() -> Result<(), adtg::Error> {
 //! // A four-byte integer, and a chapter whose rows have one byte.
@@ -21,8 +21,10 @@
 //! let plan = Plan::make(&schema, 0)?;
 //! plan.check(&schema, 0)?;
 //!
-//! let mut table = [0; 16 * ROW_NUMBERS];
-//! let rows = read_section(&schema, &section, &mut table)?;
+//! // The section is checked whole, and its rows are listed in a table with room for them.
+//! let count = check_section(&schema, &section)?;
+//! let mut table = vec![0; count * ROW_NUMBERS];
+//! let rows = list_section(&schema, &section, &mut table)?;
 //! assert_eq!(rows.len(), 2);
 //! for row in rows.iter().filter(|row| row.kind == RowKind::Parent) {
 //!     let data = &section[row.original..];
@@ -81,7 +83,7 @@ pub use schema::{
     read_schema, schema_column, schema_columns, schema_numbers, schema_of_child, write_schema,
     Chapter, Column, Counts,
 };
-pub use section::{read_section, Row, RowKind, Rows, ROW_NUMBERS};
+pub use section::{check_section, list_section, Row, RowKind, Rows, ROW_NUMBERS};
 pub use update::{current, look_update, update_end, Change, Current};
 pub use write::{write_original, write_update, Entry};
 

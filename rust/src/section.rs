@@ -39,16 +39,22 @@ pub struct Rows<'a> {
     numbers: &'a [u32],
 }
 
-/// Reads a whole row section into a table, which has room for one row in [`ROW_NUMBERS`] numbers.
-/// What lies behind the last row stays as it was; an error leaves the whole table. Without enough
-/// room the error is of the kind `Capacity`, and its offset says how many rows there are. The call
-/// takes up to 92 KB of stack.
-pub fn read_section<'a>(
+/// Checks a whole row section: how many rows it has. The call takes up to 27 KB of stack.
+pub fn check_section(file: &[u8], section: &[u8]) -> Result<usize, Error> {
+    raw::check_section(file, section).result()
+}
+
+/// Checks a whole row section and lists its rows in a table, which has room for one row in
+/// [`ROW_NUMBERS`] numbers. What lies behind the last row stays as it was; an error leaves the
+/// whole table. What [`check_section`] refuses, it refuses with the same error. Last comes the
+/// room: where it is too small the error is of the kind `Capacity`, and its offset says how many
+/// rows there are. The call takes up to 92 KB of stack.
+pub fn list_section<'a>(
     file: &[u8],
     section: &[u8],
     table: &'a mut [u32],
 ) -> Result<Rows<'a>, Error> {
-    let count = raw::read_section(file, section, table).result()?;
+    let count = raw::list_section(file, section, table).result()?;
     Ok(Rows {
         numbers: &table[..count * ROW_NUMBERS],
     })
@@ -117,12 +123,28 @@ impl RowKind {
 mod tests {
     use super::*;
     use crate::tests::{SECTION, T};
-    use crate::{current, ErrorKind, Input};
+    use crate::{current, ErrorKind, Input, MAX_INPUT};
+
+    /// A section of T: a child row that is deleted, one that is changed, one as it was, a parent.
+    const FOUR_ROWS: [u8; 37] = [
+        0x87, 7, 0, 0, 0, 0x2A, 0x8C, 7, 0, 0, 0, //
+        0x87, 7, 0, 0, 0, 0x2A, 0x8A, 7, 0, 0, 0, 0x80, 0x00, 0x2B, //
+        0x87, 7, 0, 0, 0, 0x2A, //
+        0x07, 1, 2, 3, 4, 0x0F,
+    ];
+
+    fn error(kind: ErrorKind, offset: usize, input: Input) -> Error {
+        Error {
+            kind,
+            offset,
+            input,
+        }
+    }
 
     #[test]
-    fn a_section_is_read_into_rows() {
+    fn a_section_is_listed_in_rows() {
         let mut table = [9; 11];
-        let rows = read_section(&T, &SECTION, &mut table).unwrap();
+        let rows = list_section(&T, &SECTION, &mut table).unwrap();
         let parent = Row {
             kind: RowKind::Parent,
             child_id: None,
@@ -149,20 +171,62 @@ mod tests {
     #[test]
     fn an_error_leaves_the_table() {
         let mut table = [9; 7];
-        let room = Error {
-            kind: ErrorKind::Capacity,
-            offset: 2,
-            input: Input::Table,
-        };
-        assert_eq!(read_section(&T, &SECTION, &mut table), Err(room));
-        let short = Error {
-            kind: ErrorKind::Short,
-            offset: 0,
-            input: Input::Section,
-        };
-        assert_eq!(read_section(&T, &[], &mut table), Err(short));
+        let room = error(ErrorKind::Capacity, 2, Input::Table);
+        assert_eq!(list_section(&T, &SECTION, &mut table), Err(room));
+        let short = error(ErrorKind::Short, 0, Input::Section);
+        assert_eq!(list_section(&T, &[], &mut table), Err(short));
         assert_eq!(table, [9; 7]);
-        assert!(read_section(&T, &[0x0F], &mut []).unwrap().is_empty());
+        assert!(list_section(&T, &[0x0F], &mut []).unwrap().is_empty());
+    }
+
+    #[test]
+    fn as_many_rows_are_counted_as_are_listed() {
+        for (section, count) in [(&SECTION[..], 2), (&[0x0F], 0), (&FOUR_ROWS, 4)] {
+            assert_eq!(check_section(&T, section), Ok(count));
+            let mut table = vec![9; count * ROW_NUMBERS];
+            let rows = list_section(&T, section, &mut table).unwrap();
+            assert_eq!(rows.len(), count);
+            // Whatever room the table lacks, the count stays.
+            let room = error(ErrorKind::Capacity, count, Input::Table);
+            for short in 0..table.len() {
+                let listed = list_section(&T, section, &mut table[..short]);
+                assert_eq!(listed, Err(room), "{short}");
+            }
+        }
+    }
+
+    #[test]
+    fn what_is_refused_is_refused_alike() {
+        let changed = |at: usize, byte: u8| {
+            let mut section = SECTION;
+            section[at] = byte;
+            section.to_vec()
+        };
+        let large = vec![0; MAX_INPUT + 1];
+        let of_section = |kind, offset| error(kind, offset, Input::Section);
+        let of_file = |kind, offset| error(kind, offset, Input::Schema);
+        let cases = [
+            (&T[..], vec![], of_section(ErrorKind::Short, 0)),
+            (&T, SECTION[..14].to_vec(), of_section(ErrorKind::Short, 14)),
+            (&T, changed(0, 0x0A), of_section(ErrorKind::UnknownToken, 0)),
+            (&T, changed(6, 8), of_section(ErrorKind::UnknownId, 5)),
+            (&T, changed(12, 8), of_section(ErrorKind::Unpaired, 11)),
+            (&T, changed(17, 0x80), of_section(ErrorKind::ForceNull, 17)),
+            (&T, vec![0x0F, 0x0F], of_section(ErrorKind::Trailing, 1)),
+            (&T, large.clone(), of_section(ErrorKind::TooLarge, 0)),
+            (&T[..9], vec![], of_file(ErrorKind::Short, 9)),
+            (&[0], SECTION.to_vec(), of_file(ErrorKind::Range, 0)),
+            (&large, large.clone(), of_file(ErrorKind::TooLarge, 0)),
+        ];
+        for (file, section, error) in cases {
+            assert_eq!(check_section(file, &section), Err(error));
+            for space in [0, 7, 8, 16] {
+                let mut table = [9; 16];
+                let listed = list_section(file, &section, &mut table[..space]);
+                assert_eq!(listed, Err(error));
+                assert_eq!(table, [9; 16]);
+            }
+        }
     }
 
     #[test]

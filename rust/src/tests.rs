@@ -60,8 +60,11 @@ fn every_call_writes_all_sixteen_numbers() {
     filled(&raw::write_schema(&[], room), 1);
     filled(&raw::schema_numbers(&T, table), 0);
     filled(&raw::schema_numbers(&T, &mut []), 16);
-    filled(&raw::read_section(&T, &SECTION, table), 0);
-    filled(&raw::read_section(&T, &[], table), 1);
+    filled(&raw::check_section(&T, &SECTION), 0);
+    filled(&raw::check_section(&T, &[]), 1);
+    filled(&raw::list_section(&T, &SECTION, table), 0);
+    filled(&raw::list_section(&T, &[], table), 1);
+    filled(&raw::list_section(&T, &SECTION, &mut []), 16);
     filled(&raw::look_up(&S, 0, &ROW, 1), 0);
     filled(&raw::look_up(&S, 0, &ROW, 3), 18);
     filled(&raw::field_count(&S, 0, &ROW), 0);

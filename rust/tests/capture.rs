@@ -2,8 +2,8 @@
 //! `captures/README.md` says what it holds.
 
 use adtg::{
-    field_count, look_up, read_header, read_options, read_section, row_end, Answer, Error,
-    ErrorKind, Header, Input, Options, Owner, Plan, Row, RowKind, Span,
+    check_section, field_count, list_section, look_up, read_header, read_options, row_end, Answer,
+    Error, ErrorKind, Header, Input, Options, Owner, Plan, Row, RowKind, Span,
 };
 
 const TABLEGRAM: &[u8; 744] = include_bytes!("../../captures/pubs.adtg");
@@ -74,8 +74,9 @@ fn the_handler_options_are_read() {
 
 #[test]
 fn the_section_has_one_parent_row() {
+    assert_eq!(check_section(&SCHEMA, section()), Ok(1));
     let mut table = [9; 6];
-    let rows = read_section(&SCHEMA, section(), &mut table).unwrap();
+    let rows = list_section(&SCHEMA, section(), &mut table).unwrap();
     let parent = Row {
         kind: RowKind::Parent,
         child_id: None,
@@ -95,8 +96,9 @@ fn reserved_bits_are_set_and_ignored() {
     assert_eq!(cleared[1], 0xFF);
     cleared[1] = 0xF0;
     let (mut table, mut other) = ([0; 4], [0; 4]);
-    let rows = read_section(&SCHEMA, section(), &mut table);
-    assert_eq!(read_section(&SCHEMA, &cleared, &mut other), rows);
+    let rows = list_section(&SCHEMA, section(), &mut table);
+    assert_eq!(list_section(&SCHEMA, &cleared, &mut other), rows);
+    assert_eq!(check_section(&SCHEMA, &cleared), Ok(1));
     assert_eq!(field_count(&SCHEMA, 0, &cleared[1..]), Ok(5));
     let plan = Plan::make(&SCHEMA, 0).unwrap();
     for column in 0..FIELDS.len() {
@@ -131,7 +133,7 @@ fn the_plan_finds_the_five_fields() {
 fn the_batch_finds_the_five_fields() {
     let plan = Plan::make(&SCHEMA, 0).unwrap();
     let mut table = [0; 4];
-    let rows = read_section(&SCHEMA, section(), &mut table).unwrap();
+    let rows = list_section(&SCHEMA, section(), &mut table).unwrap();
     for (column, (bytes, start, _)) in FIELDS.iter().enumerate() {
         let mut numbers = [0; 2];
         let spans = plan.find_column(
@@ -166,8 +168,8 @@ fn a_capture_that_is_cut_off_is_refused_at_its_end() {
     }
     for end in 0..section().len() {
         let cut = &section()[..end];
-        let mut table = [0; 4];
-        let refused = read_section(&SCHEMA, cut, &mut table);
-        assert_eq!(refused, Err(short(end, Input::Section)));
+        let refused = short(end, Input::Section);
+        assert_eq!(check_section(&SCHEMA, cut), Err(refused));
+        assert_eq!(list_section(&SCHEMA, cut, &mut [0; 4]), Err(refused));
     }
 }

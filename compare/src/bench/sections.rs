@@ -1,16 +1,17 @@
-//! How long it takes to read a whole row section into a table that has room for all its rows.
+//! How long it takes to list the rows of a whole section in a table that has room for them, and to
+//! check it alone.
 
 use std::hint::black_box;
 use std::time::Instant;
 
 use super::median;
-use crate::archive;
+use crate::archive::{self, Reply};
 use crate::generate::{self, Section};
 use crate::random::Random;
 use crate::reading::column::{BYTES, CHAPTER, TEXT, WIDE_TEXT};
 use crate::reading::schema::SchemaFile;
-use crate::reading::section::{read_section, ROW_NUMBERS};
-use crate::reading::Input;
+use crate::reading::section::{check_section, list_section, ROW_NUMBERS};
+use crate::reading::{Error, Input};
 use crate::text::{agree, Text};
 use crate::Totals;
 
@@ -21,14 +22,21 @@ const BYTES_OF_PAGE: usize = 10_000;
 /// How often a page is gone over in a round.
 const PAGES: usize = 100;
 
-/// How many rounds a case has. In a round each side reads the section once; the other side comes
-/// first in the next.
+/// How many rounds a case has. In a round each side goes over the section once; the other side
+/// comes first in the next.
 const ROUNDS: usize = 31;
 
 const SEED: u64 = 1;
 
 /// What the table holds before a section is read.
 const BEFORE: u32 = 0xA5A5_A5A5;
+
+/// What is done with a section.
+#[derive(Clone, Copy, Debug)]
+enum Task {
+    List,
+    Check,
+}
 
 /// What the rows of a section are like.
 #[derive(Clone, Copy, Debug)]
@@ -56,7 +64,7 @@ impl Rows {
         }
     }
 
-    /// How many bytes the section has, and how often it is read in a round.
+    /// How many bytes the section has, and how often a side goes over it in a round.
     pub(super) fn size(self) -> (usize, usize) {
         match self {
             Rows::Page => (BYTES_OF_PAGE, PAGES),
@@ -91,6 +99,22 @@ impl Rows {
     }
 }
 
+impl Task {
+    fn by_archive(self, file: &[u8], section: &[u8], table: &mut [u32]) -> Reply<usize> {
+        match self {
+            Task::List => archive::list_section(file, section, table),
+            Task::Check => archive::check_section(file, section),
+        }
+    }
+
+    fn by_reading(self, file: &[u8], section: &[u8], table: &mut [u32]) -> Result<usize, Error> {
+        match self {
+            Task::List => list_section(file, section, table),
+            Task::Check => check_section(file, section),
+        }
+    }
+}
+
 /// A section, its schema file and the table that it makes.
 pub(super) struct Case {
     pub(super) file: Vec<u8>,
@@ -121,28 +145,34 @@ impl Case {
     }
 }
 
-/// Measures all cases and prints the table. Sides that do not agree are not measured.
+/// Measures all cases and prints a table for each task. Sides that do not agree are not measured.
 pub fn run() -> Result<Totals, String> {
     let mut totals = Totals::default();
-    println!(
-        "Reading whole sections of {BYTES_OF_SECTION} bytes, a page of {BYTES_OF_PAGE} (medians of {ROUNDS} rounds):\n"
-    );
-    println!("{}", head());
-    for rows in Rows::ALL {
-        let case = Case::new(rows)?;
-        let of_case = compare(rows, &case);
-        totals.cases += of_case.cases;
-        totals.differ += of_case.differ;
-        if of_case.differ == 0 {
-            println!("{}", line(rows, &case, measure(&case, rows.size().1)));
+    for (task, name) in [
+        (Task::List, "Listing the rows of"),
+        (Task::Check, "Checking"),
+    ] {
+        println!(
+            "{name} whole sections of {BYTES_OF_SECTION} bytes, a page of {BYTES_OF_PAGE} (medians of {ROUNDS} rounds):\n"
+        );
+        println!("{}", head());
+        for rows in Rows::ALL {
+            let case = Case::new(rows)?;
+            let of_case = compare(rows, &case, task);
+            totals.cases += of_case.cases;
+            totals.differ += of_case.differ;
+            if of_case.differ == 0 {
+                let medians = measure(&case, task, rows.size().1);
+                println!("{}", line(rows, &case, medians));
+            }
         }
+        println!();
     }
-    println!();
     Ok(totals)
 }
 
-/// Reads each section once on each side, or the one of this name: for a tool that counts
-/// instructions.
+/// Lists and checks each section once on each side, or the one of this name: for a tool that
+/// counts instructions.
 pub fn count(only: Option<&str>) -> Result<Totals, String> {
     let mut totals = Totals::default();
     for rows in Rows::ALL {
@@ -150,9 +180,11 @@ pub fn count(only: Option<&str>) -> Result<Totals, String> {
             continue;
         }
         let case = Case::new(rows)?;
-        let of_case = compare(rows, &case);
-        totals.cases += of_case.cases;
-        totals.differ += of_case.differ;
+        for task in [Task::List, Task::Check] {
+            let of_case = compare(rows, &case, task);
+            totals.cases += of_case.cases;
+            totals.differ += of_case.differ;
+        }
         println!("{}: {} rows a side", rows.name(), case.rows());
     }
     if totals.cases == 0 {
@@ -161,15 +193,17 @@ pub fn count(only: Option<&str>) -> Result<Totals, String> {
     Ok(totals)
 }
 
-/// Reads the section once on each side; both make the table that is wanted.
-fn compare(rows: Rows, case: &Case) -> Totals {
+/// Goes over the section once on each side; both count the rows, and where they are listed both
+/// make the table that is wanted.
+fn compare(rows: Rows, case: &Case, task: Task) -> Totals {
     let wanted = Ok(case.rows());
     let mut ours = vec![BEFORE; case.wanted.len()];
-    let reading = read_section(&case.file, &case.section, &mut ours);
+    let reading = task.by_reading(&case.file, &case.section, &mut ours);
     let mut theirs = vec![BEFORE; case.wanted.len()];
-    let archive = archive::read_section(&case.file, &case.section, &mut theirs);
+    let archive = task.by_archive(&case.file, &case.section, &mut theirs);
     let do_agree = reading == wanted && agree(&wanted, &archive);
-    let differ = !do_agree || ours != case.wanted || theirs != case.wanted;
+    let is_listed = matches!(task, Task::List);
+    let differ = !do_agree || is_listed && [ours, theirs].iter().any(|made| *made != case.wanted);
     if differ {
         println!("{}: {} rows are wanted", rows.name(), case.rows());
         println!("  reading: {}", reading.text());
@@ -185,7 +219,7 @@ fn compare(rows: Rows, case: &Case) -> Totals {
 }
 
 /// The medians of archive and reading, in nanoseconds for a whole section.
-fn measure(case: &Case, times: usize) -> [f64; 2] {
+fn measure(case: &Case, task: Task, times: usize) -> [f64; 2] {
     let mut table = vec![BEFORE; case.wanted.len()];
     let mut rounds: [Vec<f64>; 2] = Default::default();
     for round in 0..ROUNDS {
@@ -194,10 +228,11 @@ fn measure(case: &Case, times: usize) -> [f64; 2] {
             let started = Instant::now();
             for _ in 0..times {
                 let (file, section) = (black_box(&case.file), black_box(&case.section));
+                let table = black_box(&mut table);
                 if side == 0 {
-                    let _ = black_box(archive::read_section(file, section, black_box(&mut table)));
+                    let _ = black_box(task.by_archive(file, section, table));
                 } else {
-                    let _ = black_box(read_section(file, section, black_box(&mut table)));
+                    let _ = black_box(task.by_reading(file, section, table));
                 }
             }
             rounds[side].push(started.elapsed().as_nanos() as f64 / times as f64);

@@ -108,7 +108,7 @@ fn in_section(start: usize, error: Error) -> Error {
 mod tests {
     use super::super::plan::make_plan;
     use super::super::schema::SchemaFile;
-    use super::super::section::read_section;
+    use super::super::section::list_section;
     use super::super::MAX_INPUT;
     use super::*;
 
@@ -149,7 +149,7 @@ mod tests {
     #[test]
     fn spans_stand_in_the_rows_order() {
         let mut table = [0; 8];
-        assert_eq!(read_section(&S, &S_ROWS, &mut table), Ok(2));
+        assert_eq!(list_section(&S, &S_ROWS, &mut table), Ok(2));
         assert_eq!(table, S_TABLE);
         let find = |rows: &[u32], column| find((&S, 0), &S_ROWS, rows, PARENTS, column, 5);
         assert_eq!(find(&S_TABLE, 0), (Ok(2), [2, 6, 14, 18, 9]));

@@ -26,20 +26,32 @@ const CHILD_UNCHANGED: u32 = 2;
 const CHILD_CHANGED: u32 = 3;
 const CHILD_DELETED: u32 = 4;
 
-/// Reads a whole section into the caller's table and answers how many rows it has. After an
-/// error the table is as it was.
-pub fn read_section(schema: &[u8], section: &[u8], table: &mut [u32]) -> Result<usize, Error> {
-    check_size(schema, Input::Schema)?;
-    check_size(section, Input::Section)?;
-    let file = SchemaFile::read(schema, Input::Schema)?;
-    let mut rows = Rows::new(table.len() / ROW_NUMBERS);
-    Elements::new(&file, section).read(&mut rows)?;
+/// Checks a whole section and answers how many rows it has.
+pub fn check_section(schema: &[u8], section: &[u8]) -> Result<usize, Error> {
+    let rows = rows_of(schema, section, 0)?;
+    Ok(rows.count)
+}
+
+/// Checks a whole section, lists its rows in the caller's table and answers how many it has. After
+/// an error the table is as it was.
+pub fn list_section(schema: &[u8], section: &[u8], table: &mut [u32]) -> Result<usize, Error> {
+    let rows = rows_of(schema, section, table.len() / ROW_NUMBERS)?;
     if rows.count > rows.kept.len() {
         return Err(Error::new(ErrorCode::Capacity, rows.count, Input::Table));
     }
     let filled = rows.kept.as_flattened();
     table[..filled.len()].copy_from_slice(filled);
     Ok(rows.count)
+}
+
+/// The rows of a whole section, of which a table has room for so many.
+fn rows_of(schema: &[u8], section: &[u8], capacity: usize) -> Result<Rows, Error> {
+    check_size(schema, Input::Schema)?;
+    check_size(section, Input::Section)?;
+    let file = SchemaFile::read(schema, Input::Schema)?;
+    let mut rows = Rows::new(capacity);
+    Elements::new(&file, section).read(&mut rows)?;
+    Ok(rows)
 }
 
 /// The rows found so far. Those that the table has no room for are only counted.
@@ -230,42 +242,46 @@ mod tests {
         Err(Error::new(code, offset, Input::Section))
     }
 
+    /// What both calls say, where there is room for two rows.
+    fn both(schema: &[u8], section: &[u8]) -> Result<usize, Error> {
+        let listed = list_section(schema, section, &mut [0; 2 * ROW_NUMBERS]);
+        assert_eq!(check_section(schema, section), listed);
+        listed
+    }
+
     #[test]
     fn sections_without_rows() {
-        assert_eq!(read_section(&S, &[0x0F], &mut []), Ok(0));
-        let empty = read_section(&S, &[], &mut []);
-        assert_eq!(empty, wrong(ErrorCode::Truncated, 0));
-        let twice = read_section(&S, &[0x0F, 0x0F], &mut []);
-        assert_eq!(twice, wrong(ErrorCode::Trailing, 1));
+        assert_eq!(both(&S, &[0x0F]), Ok(0));
+        assert_eq!(list_section(&S, &[0x0F], &mut []), Ok(0));
+        assert_eq!(both(&S, &[]), wrong(ErrorCode::Truncated, 0));
+        assert_eq!(both(&S, &[0x0F, 0x0F]), wrong(ErrorCode::Trailing, 1));
     }
 
     #[test]
     fn a_parent_and_a_changed_child() {
         let mut table = [9; 10];
-        assert_eq!(read_section(&T, &ROWS, &mut table), Ok(2));
+        assert_eq!(list_section(&T, &ROWS, &mut table), Ok(2));
         assert_eq!(table, [1, 0, 1, 0, 3, 7, 10, 16, 9, 9]);
         let mut table = [9; 7];
-        let small = read_section(&T, &ROWS, &mut table);
+        let small = list_section(&T, &ROWS, &mut table);
         let error = Error::new(ErrorCode::Capacity, 2, Input::Table);
         assert_eq!(small, Err(error));
         assert_eq!(table, [9; 7]);
+        assert_eq!(check_section(&T, &ROWS), Ok(2));
     }
 
     #[test]
     fn a_change_needs_its_own_child() {
         let mut rows = ROWS;
         rows[12] = 8;
-        let other = read_section(&T, &rows, &mut [0; 8]);
-        assert_eq!(other, wrong(ErrorCode::Unpaired, 11));
-        let cut = read_section(&T, &ROWS[..14], &mut [0; 8]);
-        assert_eq!(cut, wrong(ErrorCode::Truncated, 14));
+        assert_eq!(both(&T, &rows), wrong(ErrorCode::Unpaired, 11));
+        assert_eq!(both(&T, &ROWS[..14]), wrong(ErrorCode::Truncated, 14));
     }
 
     #[test]
     fn a_forced_null_needs_its_update_bit() {
         let mut rows = ROWS;
         rows[16..18].copy_from_slice(&[0x00, 0x80]);
-        let forced = read_section(&T, &rows, &mut [0; 8]);
-        assert_eq!(forced, wrong(ErrorCode::ForceRule, 17));
+        assert_eq!(both(&T, &rows), wrong(ErrorCode::ForceRule, 17));
     }
 }

@@ -1,21 +1,40 @@
-//! Trials of the section reader.
+//! Trials of the section reader: a section is checked, and its rows are listed.
 
 use super::row_data::{Form, Subject};
 use super::rows::REFUSED;
 use super::{complaints, damage, filled_complaints, schema, Call, Run};
-use crate::archive;
+use crate::archive::{self, Fault, Reply};
 use crate::generate::{self, Section, Shape};
 use crate::random::Random;
 use crate::reading::column::{BYTES, CHAPTER, TEXT, WIDE_TEXT};
 use crate::reading::schema::{SchemaFile, MAX_FILE_COLUMNS};
 use crate::reading::section::{
-    read_section, CHILD, CHILD_CHANGE, CHILD_DELETE, END, PARENT, ROW_NUMBERS,
+    check_section, list_section, CHILD, CHILD_CHANGE, CHILD_DELETE, END, PARENT, ROW_NUMBERS,
 };
 use crate::reading::{Error, ErrorCode, Input, MAX_INPUT};
-use crate::text::{shown, shown_numbers};
+use crate::text::{shown, shown_numbers, Text};
 
-static READ: Call = Call {
-    name: "read_section",
+static CHECK: Call = Call {
+    name: "check_section",
+    codes: &[
+        ErrorCode::Truncated,
+        ErrorCode::NumberForm,
+        ErrorCode::NumberRange,
+        ErrorCode::SchemaLimit,
+        ErrorCode::RepeatedId,
+        ErrorCode::UnknownToken,
+        ErrorCode::UnknownChild,
+        ErrorCode::Unpaired,
+        ErrorCode::ChapterBit,
+        ErrorCode::ForceRule,
+        ErrorCode::Length,
+        ErrorCode::Trailing,
+        ErrorCode::Oversize,
+    ],
+};
+
+static LIST: Call = Call {
+    name: "list_section",
     codes: &[
         ErrorCode::Truncated,
         ErrorCode::NumberForm,
@@ -272,29 +291,49 @@ fn full_section() -> Vec<u8> {
     bytes
 }
 
-/// Reads a section on both sides into tables that begin as `before`.
+/// Checks a section on both sides, and lists its rows in tables that begin as `before`.
 fn read(file: &[u8], section: &[u8], before: &[u32], run: &mut Run) {
+    let reading = check_section(file, section);
+    let checked = archive::check_section(file, section);
+    let of_check = complaints(&reading, &checked);
+    run.judge(&CHECK, &reading, &of_check, || {
+        format!("{} {}", shown(file), shown(section))
+    });
+
     let (mut ours, mut theirs) = (before.to_vec(), before.to_vec());
-    let reading = read_section(file, section, &mut ours);
-    let archive = archive::read_section(file, section, &mut theirs);
-    let mut complaints = complaints(&reading, &archive);
+    let reading = list_section(file, section, &mut ours);
+    let listed = archive::list_section(file, section, &mut theirs);
+    let mut of_list = complaints(&reading, &listed);
     let filled = reading.as_ref().map(|rows| ROW_NUMBERS * rows);
     let of_tables = filled_complaints(before, &ours, &theirs, 0, &filled, shown_numbers);
-    complaints.extend(of_tables);
-    run.judge(&READ, &reading, &complaints, || {
+    of_list.extend(of_tables);
+    if !go_together(&checked, &listed, before.len()) {
+        of_list.push(format!("archive, checked: {}", checked.text()));
+        of_list.push(format!("archive, listed: {}", listed.text()));
+    }
+    run.judge(&LIST, &reading, &of_list, || {
         let space = before.len();
         format!("{} {} {space}", shown(file), shown(section))
     });
 }
 
+/// True if the archive lists as it checks: the same count or the same error, but for the error of
+/// a table of so many numbers that has no room for what is counted.
+fn go_together(checked: &Reply<usize>, listed: &Reply<usize>, space: usize) -> bool {
+    match checked {
+        Ok(rows) if *rows > space / ROW_NUMBERS => {
+            let room = Error::new(ErrorCode::Capacity, *rows, Input::Table);
+            *listed == Err(Fault::Error(room))
+        }
+        Err(Fault::Error(error)) if error.code == ErrorCode::Capacity => false,
+        _ => listed == checked,
+    }
+}
+
 /// How many numbers a table has: often around what the section needs, at times anything.
 fn space(random: &mut Random, file: &[u8], section: &[u8]) -> usize {
-    let rows = match read_section(file, section, &mut []) {
-        Err(Error {
-            code: ErrorCode::Capacity,
-            offset,
-            ..
-        }) => offset,
+    let rows = match check_section(file, section) {
+        Ok(rows) if rows > 0 => rows,
         _ => random.below(3),
     };
     let need = ROW_NUMBERS * rows;
@@ -483,10 +522,8 @@ impl<'a> Maker<'a> {
 
     /// Ends the section where it is refused, or a little further, so that two errors meet.
     fn end_where_refused(&mut self, random: &mut Random) {
-        if let Err(error) = read_section(self.sound, &self.bytes, &mut []) {
-            if error.code != ErrorCode::Capacity {
-                self.bytes.truncate(error.offset + random.below(6));
-            }
+        if let Err(error) = check_section(self.sound, &self.bytes) {
+            self.bytes.truncate(error.offset + random.below(6));
         }
     }
 }
@@ -501,8 +538,37 @@ mod tests {
         let section = full_section();
         assert_eq!(section.len(), MAX_INPUT);
         let rows = MAX_INPUT.div_ceil(FULL_ROW);
-        let mut table = vec![0; ROW_NUMBERS * rows];
-        assert_eq!(read_section(&file, &section, &mut table), Ok(rows));
+        assert_eq!(check_section(&file, &section), Ok(rows));
+    }
+
+    #[test]
+    fn checking_and_listing_differ_only_by_the_room() {
+        let refused = |code, offset, input| -> Reply<usize> {
+            Err(Fault::Error(Error::new(code, offset, input)))
+        };
+        let room = refused(ErrorCode::Capacity, 2, Input::Table);
+        let short = refused(ErrorCode::Truncated, 2, Input::Section);
+        assert!(go_together(&Ok(2), &Ok(2), 8));
+        assert!(go_together(&Ok(2), &room, 7));
+        assert!(go_together(&short, &short, 7));
+        for (checked, listed, space) in [
+            (Ok(2), Ok(2), 7),
+            (Ok(2), Ok(3), 12),
+            (Ok(2), room.clone(), 8),
+            (Ok(3), room.clone(), 7),
+            (Ok(2), refused(ErrorCode::Capacity, 2, Input::Section), 7),
+            (Ok(2), short.clone(), 8),
+            (Ok(2), short.clone(), 7),
+            (short.clone(), Ok(2), 8),
+            (short.clone(), room.clone(), 7),
+            (short, refused(ErrorCode::Truncated, 3, Input::Section), 8),
+            (room.clone(), room, 7),
+        ] {
+            assert!(
+                !go_together(&checked, &listed, space),
+                "{checked:?} {listed:?}"
+            );
+        }
     }
 
     #[test]
@@ -511,7 +577,7 @@ mod tests {
         for longest in [300, 65_534] {
             let section = sizes_section(&mut random, longest);
             let mut table = vec![0; ROW_NUMBERS * section.len()];
-            let rows = read_section(&sizes_file(), &section, &mut table).expect("it is sound");
+            let rows = list_section(&sizes_file(), &section, &mut table).expect("it is sound");
             assert!(rows > HELD && section.len() > NOTED);
             let starts = table.chunks(ROW_NUMBERS).take(rows).map(|row| row[2]);
             let gaps: Vec<u32> = starts

@@ -69,7 +69,14 @@ extern "C" {
         capacity: usize,
         out: *mut Numbers,
     ) -> u32;
-    fn adtg_read_section(
+    fn adtg_check_section(
+        file: *const u8,
+        file_length: usize,
+        section: *const u8,
+        section_length: usize,
+        out: *mut Numbers,
+    ) -> u32;
+    fn adtg_list_section(
         file: *const u8,
         file_length: usize,
         section: *const u8,
@@ -292,10 +299,23 @@ pub fn schema_numbers(file: &[u8], table: &mut [u32]) -> Reply<usize> {
     })
 }
 
-/// Calls `adtg_read_section`.
-pub fn read_section(file: &[u8], section: &[u8], table: &mut [u32]) -> Reply<usize> {
+/// Calls `adtg_check_section`.
+pub fn check_section(file: &[u8], section: &[u8]) -> Reply<usize> {
     Reply::of(|out| unsafe {
-        adtg_read_section(
+        adtg_check_section(
+            file.as_ptr(),
+            file.len(),
+            section.as_ptr(),
+            section.len(),
+            out,
+        )
+    })
+}
+
+/// Calls `adtg_list_section`.
+pub fn list_section(file: &[u8], section: &[u8], table: &mut [u32]) -> Reply<usize> {
+    Reply::of(|out| unsafe {
+        adtg_list_section(
             file.as_ptr(),
             file.len(),
             section.as_ptr(),
