@@ -186,7 +186,7 @@ module _ (shapes : List ℕ) (k : ℕ) (s : Bytes) (start : ℕ) (o : AreBytes s
             count = f .count;
             leads = λ i h.
                 let (has, sized) = row-fair cs s start o (shape .few) i h in
-                record { stop = f .stops i h; has = rw (w, f .always, e) has; sized = sized };
+                record { says = f .stops i h; has = rw (w, f .always, e) has; sized = sized };
           }
 
       by :
@@ -223,7 +223,7 @@ module _ (shapes : List ℕ) (k : ℕ) (s : Bytes) (start : ℕ) (o : AreBytes s
             count = f .count;
             leads = λ i h.
                 let (has, sized) = update-fair cs s start o (shape .few) i h in
-                record { stop = f .stops i h; has = rw (a, e, b) has; sized = sized };
+                record { says = f .stops i h; has = rw (a, e, b) has; sized = sized };
           }
 
       by :

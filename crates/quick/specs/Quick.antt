@@ -12,12 +12,12 @@ use Rattle.wire.specs.Read.{Bytes, AreBytes, Read, ok, pick}
 use Rattle.maps.specs.Maps.{topBit}
 use Rattle.column.specs.declared.column.Column.{Column}
 use Rattle.column.specs.Columns.{lengthErrorOf}
-use Rattle.column.specs.Stops.{Stop, noStop, stopIn, prefixOf, there, lengthAt}
+use Rattle.column.specs.Stops.{Stop, noStop, prefixOf, there, lengthAt}
 use Rattle.walk.specs.Presence.{one}
 use Rattle.walk.specs.Rows.{place, rowEnd}
 use Rattle.walk.specs.Updates.{updateEnd}
 use Rattle.walk.specs.Leaps.{leap}
-use Rattle.shapes.specs.Shapes.{firstIn, stopsIn, tailIn}
+use Rattle.shapes.specs.Shapes.{firstIn, stopsIn, tailIn, bitMask, SayOne}
 use Rattle.shapes.specs.Masks.{Shape}
 
 -- 0 says nothing; any other number is the end
@@ -38,21 +38,25 @@ RowStep shapes r = (cs : List Column) → Shape shapes 0 cs → 1 ≤ r → (s :
 
 -- Inner.
 
--- a word leads over a stop, by these bits
-pub record Leads (on : ℕ → Bool) (bits word : ℕ) (t : Stop) : Type 0 where
-  pub stop : stopIn word ≡ t
+-- a word and its mask lead over a stop, by these bits
+pub record Leads (on : ℕ → Bool) (bits word mask : ℕ) (t : Stop) : Type 0 where
+  pub says : SayOne word mask t
   pub has : topBit bits (t .bit) ≡ one (there on t)
   pub sized : t .variable ≡ true → t .size ≡ prefixOf t
 
 -- the words of a form lead over these stops
 pub record Leading (shapes : List ℕ) (form : ℕ) (on : ℕ → Bool) (bits : ℕ) (ts : List Stop) : Type 0 where
   pub count : stopsIn form ≡ length ts
-  pub leads : (i : ℕ) → i < length ts → Leads on bits (getD shapes (firstIn form + i) 0) (getD ts i noStop)
+  pub leads : (i : ℕ) → i < length ts → Leads on bits (getD shapes (firstIn form + 2 * i) 0) (getD shapes (firstIn form + 2 * i + 1) 0) (getD ts i noStop)
 
 -- what is said of the way over a form's words: where it ends over whatever stops they lead
 abbrev pub Over : (shapes : List ℕ) (form bits : ℕ) → Bytes → (fields r : ℕ) → Type 0
 Over shapes form bits s fields r =
     (on : ℕ → Bool) (ts : List Stop) → Leading shapes form on bits ts → (r ≡ 0) ⊎ ((n : ℕ) × (leap on s ts (tailIn form) (place fields 0) ≡ ok (place r n)))
+
+-- r is the bit among these bits that a mask has, whichever it is
+abbrev pub Tells : (mask bits r : ℕ) → Type 0
+Tells mask bits r = (b : ℕ) → mask ≡ bitMask b → r ≡ topBit bits b
 
 -- the length of a stop's field at p, where `has` is 1, else 0; one that is not allowed is told as a number that is too long
 unfoldable pub lengthOver : Stop → (has : ℕ) → Bytes → (p : ℕ) → ℕ

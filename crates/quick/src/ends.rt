@@ -7,6 +7,7 @@ ghost use lib.ListN.{length};
 ghost use Rattle.shapes.specs.Shapes.{tailIn};
 ghost use Rattle.quick.specs.Quick.{Keeps, Over, QuickRow, QuickUpdate, RowStep};
 use crate::steps::TOO_LONG;
+use crate::steps::bit_by;
 use crate::steps::lead_over;
 use crate::steps::length_over;
 use maps::maps::bits_at;
@@ -17,7 +18,6 @@ use shapes::forms::map_in;
 use shapes::forms::stops_in;
 use shapes::forms::tail_in;
 use shapes::shapes::HEAD;
-use stops::stop::bit_on;
 use stops::stop::gap_in;
 use wire::LIMIT;
 
@@ -41,16 +41,16 @@ fn over(shapes: &[usize], form: usize, bits: u64, section: &[u8], fields: usize)
     requires { ⌜ (fields ≤ length (now section)) × (length (now section) ≤ 16777216) ⌝ }
     ensures { λ r. ⌜ Over (now (shapes .entry)) form bits (now (section .entry)) fields r ⌝ }
 {
-    let last = first_in(form) + stops_in(form);
+    let last = first_in(form) + 2 * stops_in(form);
     if shapes.len() < last {
         return 0;
     }
     let mut lead = fields;
     let mut lengths = 0;
     let mut j = first_in(form);
-    while j < last {
+    while j + 1 < last {
         let word = shapes[j];
-        let has = bit_on(word, bits);
+        let has = bit_by(shapes[j + 1], bits);
         let next = lead + lead_over(word, has);
         let length = length_over(word, has, section, lead + gap_in(word) + lengths);
         if length == TOO_LONG {
@@ -58,7 +58,7 @@ fn over(shapes: &[usize], form: usize, bits: u64, section: &[u8], fields: usize)
         }
         lengths += length;
         lead = next;
-        j += 1;
+        j += 2;
     }
     let end = lead + lengths + tail_in(form);
     if section.len() < end {

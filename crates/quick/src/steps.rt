@@ -2,7 +2,7 @@
 ghost use mathlib.Core.Path.{_≡_};
 ghost use Prim.Native.Nat.{_+_, _*_, _≤_, _<_};
 ghost use Rattle.column.specs.Stops.{stopIn};
-ghost use Rattle.quick.specs.Quick.{lengthOver};
+ghost use Rattle.quick.specs.Quick.{Tells, lengthOver};
 use column::column::allows;
 use stops::stop::gap_in;
 use stops::stop::is_even_in;
@@ -20,6 +20,13 @@ fn kept(n: usize, has: usize) -> usize
     ensures { λ r. ⌜ (r ≡ n * has) × (r ≤ n) ⌝ }
 {
     if has == 0 { 0 } else { n }
+}
+
+// A stop's bit among the first 64 bits of a map, by the stop's mask: in a loop this takes less than a shift.
+pub(crate) fn bit_by(mask: usize, bits: u64) -> usize
+    ensures { λ r. ⌜ Tells mask bits r × (r ≤ 1) ⌝ }
+{
+    if bits & (mask as u64) == 0 { 0 } else { 1 }
 }
 
 // The bytes of a stop that the bits of a map decide on: its gap, and where the field is there its prefix, or the whole field where it has none.

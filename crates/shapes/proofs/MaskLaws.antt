@@ -9,7 +9,7 @@ use native.Mathlib.Omega.{arith}
 use borrow.Author.Count.{below-none, below-more}
 use lib.ListN.{length, getD, set, length-set}
 use lib.Seq.{getD-set-same, getD-set-other}
-use lib.Pow.{shr-shr}
+use lib.Pow.{pow-add, shl-shr, shr-shr}
 use lib.Bits.{bitOr}
 use Rattle.maps.specs.Maps.{topBit}
 use Rattle.column.specs.declared.column.Column.{Column}
@@ -20,9 +20,16 @@ use Rattle.walk.proofs.Laws.{bit-few, length-marks, mark-at}
 use Rattle.walk.proofs.UpdateLaws.{length-numbered, number-at}
 use Rattle.tree.specs.Schemas.{asColumn}
 use Rattle.tree.specs.Table.{entryIn}
+use Rattle.shapes.specs.Shapes.{bitMask}
 use Rattle.shapes.specs.Masks.{BitAdded, isMarked, isNested, isUnforced, isAny, Masked, MasksAdded}
 use Rattle.shapes.proofs.Slots.{inSlots, length-slots, slot-asked}
 use Rattle.maps.proofs.MapBits.{bit-small, or-bit}
+
+-- the mask of a bit, as code makes it
+pub mask-is : (i : ℕ) → i < 64 → 9223372036854775808 / 2 ^ i ≡ bitMask i
+mask-is i h =
+    let e : 63 - i + i ≡ 63 = omega arith in
+    ap (λ (n : ℕ). n / 2 ^ i) (ap (λ (k : ℕ). 2 ^ k) (sym e) ∙ pow-add 2 (63 - i) i) ∙ shl-shr (2 ^ (63 - i)) i
 
 -- One bit more in a mask.
 

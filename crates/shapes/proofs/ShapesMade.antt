@@ -32,11 +32,14 @@ data-few false cs = omega (arith, stops-few isNullable isStop 0 (marks 0 cs), le
 -- a form says the same of other numbers, where those of its words are the same
 formed-same :
     (shapes other : List ℕ) (form : ℕ) (update : Bool) (cs : List Column) → length other ≡ length shapes →
-    ((i : ℕ) → firstIn form ≤ i → i < firstIn form + length cs → getD other i 0 ≡ getD shapes i 0) →
+    ((i : ℕ) → firstIn form ≤ i → i < firstIn form + 2 * length cs → getD other i 0 ≡ getD shapes i 0) →
     Formed shapes form update cs → Formed other form update cs
 formed-same shapes other form update cs long same f =
     record {
-      stops = λ i h. rw (same (firstIn form + i) (omega arith) (omega (arith, data-few update cs))) (f .stops i h);
+      stops = λ i h.
+          let x = same (firstIn form + 2 * i) (omega arith) (omega (arith, data-few update cs)) in
+          let y = same (firstIn form + 2 * i + 1) (omega arith) (omega (arith, data-few update cs)) in
+          rw (x, y) (f .stops i h);
       inside = omega (arith, f .inside);
       count = f .count;
       map = f .map;
@@ -48,7 +51,7 @@ formed-same shapes other form update cs long same f =
 
 module _
     {cs : List Column} {k next : ℕ} {entry masked stopped : List ℕ} {form : ℕ} (few : length cs ≤ 64) (low : 8 * k + 8 ≤ next)
-    (room : next + 2 * length cs ≤ length entry) (m : MasksAdded cs k entry masked) (a : Added false cs next masked stopped form)
+    (room : next + 4 * length cs ≤ length entry) (m : MasksAdded cs k entry masked) (a : Added false cs next masked stopped form)
   where
     abbrev headed : List ℕ
     headed = set stopped (8 * k) form
@@ -94,7 +97,7 @@ module _
 
     -- any other has
     pub schema-nested :
-        {added : List ℕ} {changes at : ℕ} → at ≡ next + length cs → Added true cs at headed added changes →
+        {added : List ℕ} {changes at : ℕ} → at ≡ next + 2 * length cs → Added true cs at headed added changes →
         SchemaAdded cs k next entry (set added (8 * k + 1) changes)
     schema-nested {added} {changes} {at} here u =
         record {
@@ -121,7 +124,7 @@ module _
         now : getD exit (8 * k + 1) 0 ≡ changes
         now = getD-set-same added (8 * k + 1) changes 0 (omega (arith, u .long, long))
 
-        same : (i : ℕ) → (i ≡ 8 * k + 1 → ⊥) → i < next + length cs → getD exit i 0 ≡ getD headed i 0
+        same : (i : ℕ) → (i ≡ 8 * k + 1 → ⊥) → i < next + 2 * length cs → getD exit i 0 ≡ getD headed i 0
         same i n l = getD-set-other added (8 * k + 1) i changes 0 n ∙ u .others i (inl (omega (arith, here)))
 
         rows : Formed exit form false cs
@@ -136,7 +139,7 @@ module _
         away i (inl l) e = omega arith
         away i (inr (g, l)) e = omega arith
 
-        near : (i : ℕ) → (i < 8 * k) ⊎ ((8 * k + 8 ≤ i) × (i < next)) → i < next + length cs
+        near : (i : ℕ) → (i < 8 * k) ⊎ ((8 * k + 8 ≤ i) × (i < next)) → i < next + 2 * length cs
         near i (inl l) = omega arith
         near i (inr (g, l)) = omega arith
 
@@ -168,7 +171,7 @@ schema-length slots n k h =
 -- the words of a form stand between two places
 pub record Between (from to form size : ℕ) : Type 0 where
   pub low : from ≤ firstIn form
-  pub high : firstIn form + size ≤ to
+  pub high : firstIn form + 2 * size ≤ to
 
 -- The shapes of the first k of n schemas, with the words before `next`.
 pub record Keeping (slots : List ℕ) (n : ℕ) (entry shapes : List ℕ) (next k : ℕ) : Type 0 where
@@ -177,7 +180,7 @@ pub record Keeping (slots : List ℕ) (n : ℕ) (entry shapes : List ℕ) (next 
   pub shaped : (j : ℕ) → j < k → Shape shapes j (slotColumns slots j)
   pub rows : (j : ℕ) → j < k → Between (8 * n) next (getD shapes (formAt false j) 0) (length (slotColumns slots j))
   pub changes : (j : ℕ) → j < k → 1 ≤ j → Between (8 * n) next (getD shapes (formAt true j) 0) (length (slotColumns slots j))
-  pub room : next ≡ 8 * n + 2 * columnCount (take k (schemasIn 0 n slots))
+  pub room : next ≡ 8 * n + 4 * columnCount (take k (schemasIn 0 n slots))
   pub near : next ≤ 65536
 
 pub keep-start : (slots : List ℕ) (n : ℕ) (entry : List ℕ) → n ≤ 256 → Keeping slots n entry entry (8 * n) 0
@@ -205,7 +208,7 @@ module _ {slots : List ℕ} {n : ℕ} {entry shapes : List ℕ} {next k : ℕ} (
 
   pub keep-next :
       {exit : List ℕ} {room : ℕ} → HasRoom (startIn slot) (countIn slot) next room → room ≤ 65535 → SchemaAdded (slotColumns slots k) k next shapes exit →
-      Keeping slots n entry exit (next + 2 * countIn slot) (k + 1)
+      Keeping slots n entry exit (next + 4 * countIn slot) (k + 1)
   keep-next {exit} {room} has top a =
       record {
         below = omega arith;
@@ -230,7 +233,7 @@ module _ {slots : List ℕ} {n : ℕ} {entry shapes : List ℕ} {next k : ℕ} (
       head j l i g m = a .others i (inl (omega arith))
 
       -- its words
-      words : {form m : ℕ} → Between (8 * n) next form m → (i : ℕ) → firstIn form ≤ i → i < firstIn form + m → getD exit i 0 ≡ getD shapes i 0
+      words : {form m : ℕ} → Between (8 * n) next form m → (i : ℕ) → firstIn form ≤ i → i < firstIn form + 2 * m → getD exit i 0 ≡ getD shapes i 0
       words b i g l = a .others i (inr (omega (arith, b .low), omega (arith, b .high)))
 
       before : (j : ℕ) → j < k → Shape exit j (slotColumns slots j)

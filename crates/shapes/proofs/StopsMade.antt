@@ -13,9 +13,10 @@ use borrow.Author.Count.{below-none, below-more}
 use lib.ListN.{length, getD, set, take, length-append, length-set, length-take, List·getD-append}
 use lib.Seq.{take-all, take-suc, getD-set-same, getD-set-other, getD-append-seam}
 use Rattle.wire.specs.Bits.{mapBytes}
+use Rattle.wire.specs.Read.{pick}
 use Rattle.column.specs.declared.column.Column.{Column}
 use Rattle.column.specs.Columns.{width, isNullable, isStop}
-use Rattle.column.specs.Stops.{Stop, noStop, stopOf, stopWord, stopIn}
+use Rattle.column.specs.Stops.{Stop, noStop, stopOf, stopWord}
 use Rattle.column.proofs.Stops.{width-few}
 use Rattle.stops.proofs.StopLaws.{stop-in, stop-fits}
 use Rattle.walk.specs.Presence.{noColumn, one, nullables, presenceBytes, Mark, mark, noMark, marks, bitOf}
@@ -25,7 +26,7 @@ use Rattle.walk.proofs.Laws.{bit-zero, bit-next, bit-all, length-marks, mark-at
 use Rattle.walk.proofs.Leap.{stops-append, tail-append, update-stops, update-stop}
 use Rattle.tree.specs.Schemas.{asColumn}
 use Rattle.tree.specs.Table.{entryIn}
-use Rattle.shapes.specs.Shapes.{formOf, firstIn, stopsIn, mapIn, tailIn, alwaysIn, SayAll, Added}
+use Rattle.shapes.specs.Shapes.{formOf, firstIn, stopsIn, mapIn, tailIn, alwaysIn, bitMask, SayOne, SayAll, Added}
 use Rattle.shapes.specs.Data.{dataStops, dataMap}
 use Rattle.shapes.proofs.FormParts.{form-first, form-stops, form-map, form-tail, form-always}
 
@@ -35,55 +36,71 @@ one-most false = omega arith
 
 -- Words.
 
--- the word of a column in a slot says its stop
+stop-bit : (free : Bool) (c : Column) (gap bit : ℕ) → stopOf free c gap bit .bit ≡ pick free bit 63
+unfolding stopOf
+stop-bit free c gap bit = refl
+
+-- the word of a column in a slot says its stop, with the mask of its bit
 pub word-says :
-    (free : Bool) (c : Column) (gap bit slot : ℕ) {w : ℕ} → gap < 65536 → bit < 64 → c ≡ asColumn (entryIn slot) →
-    w ≡ stopWord (stopOf free c (gap % 65536) (bit % 64)) → stopIn w ≡ stopOf free c gap bit
-word-says free c gap bit slot {w} g b e h =
+    (free : Bool) (c : Column) (gap bit slot : ℕ) {w m : ℕ} → gap < 65536 → bit < 64 → c ≡ asColumn (entryIn slot) →
+    w ≡ stopWord (stopOf free c (gap % 65536) (bit % 64)) → m ≡ bitMask (pick free bit 63) → SayOne w m (stopOf free c gap bit)
+word-says free c gap bit slot {w} {m} g b e h k =
     let x : gap % 65536 ≡ gap = omega arith in
     let y : bit % 64 ≡ bit = omega arith in
-    let m : c .maximum < 65536 = rw e (omega arith) in
-    rw (h, x, y) (stop-in (stop-fits free c gap bit g b m))
+    let most : c .maximum < 65536 = rw e (omega arith) in
+    record { stop = rw (h, x, y) (stop-in (stop-fits free c gap bit g b most)); bit = rw stop-bit k }
 
--- Words from `next` on say these stops; all others are what they were.
+-- Numbers from `next` on say these stops; all others are what they were.
 pub record Saying (next : ℕ) (ts : List Stop) (words₀ words : List ℕ) : Type 0 where
   pub says : SayAll words next ts
   pub long : length words ≡ length words₀
-  pub others : (j : ℕ) → (j < next) ⊎ (next + length ts ≤ j) → getD words j 0 ≡ getD words₀ j 0
+  pub others : (j : ℕ) → (j < next) ⊎ (next + 2 * length ts ≤ j) → getD words j 0 ≡ getD words₀ j 0
 
 say-start : (next : ℕ) (words : List ℕ) → Saying next [] words words
 say-start next words = record { says = below-none _; long = refl; others = λ j h. refl }
 
 -- one stop more
 say-more :
-    {next : ℕ} {ts : List Stop} {words₀ words : List ℕ} (w at : ℕ) {t : Stop} → Saying next ts words₀ words → stopIn w ≡ t →
-    at ≡ next + length ts → at < length words → Saying next (ts ++ (t ∷ [])) words₀ (set words at w)
-say-more {next} {ts} {words₀} {words} w at {t} s e a h =
+    {next : ℕ} {ts : List Stop} {words₀ words : List ℕ} (w m at : ℕ) {t : Stop} → Saying next ts words₀ words → SayOne w m t →
+    at ≡ next + 2 * length ts → at + 1 < length words → Saying next (ts ++ (t ∷ [])) words₀ (set (set words at w) (at + 1) m)
+say-more {next} {ts} {words₀} {words} w m at {t} s e a h =
     record {
       says = λ i l. here i l (ltb i (length ts)) refl;
-      long = length-set words at w ∙ s .long;
-      others = λ j l. getD-set-other words at j w 0 (λ z. away j (rw n at l) z) ∙ s .others j (wider j (rw n at l));
+      long = simp length-set (s .long);
+      others = λ j l. behind j (rw n at l);
     }
   where
     n : length (ts ++ (t ∷ [])) ≡ length ts + 1
     n = length-append ts (t ∷ [])
 
-    here : (i : ℕ) → i < length (ts ++ (t ∷ [])) → (b : Bool) → ltb i (length ts) ≡ b → stopIn (getD (set words at w) (next + i) 0) ≡ getD (ts ++ (t ∷ [])) i noStop
+    more : List ℕ
+    more = set (set words at w) (at + 1) m
+
+    other : (j : ℕ) → (j ≡ at → ⊥) → (j ≡ at + 1 → ⊥) → getD more j 0 ≡ getD words j 0
+    other j x y = getD-set-other (set words at w) (at + 1) j m 0 y ∙ getD-set-other words at j w 0 x
+
+    its-word : getD more at 0 ≡ w
+    its-word = getD-set-other (set words at w) (at + 1) at m 0 (λ z. omega arith) ∙ getD-set-same words at w 0 (omega arith)
+
+    its-mask : getD more (at + 1) 0 ≡ m
+    its-mask = getD-set-same (set words at w) (at + 1) m 0 (simp length-set h)
+
+    here :
+        (i : ℕ) → i < length (ts ++ (t ∷ [])) → (b : Bool) → ltb i (length ts) ≡ b →
+        SayOne (getD more (next + 2 * i) 0) (getD more (next + 2 * i + 1) 0) (getD (ts ++ (t ∷ [])) i noStop)
     here i l true b =
         let k : i < length ts = ltb-true _ _ b in
-        rw (getD-set-other words at (next + i) w 0 (λ z. omega arith), List·getD-append ts (t ∷ []) noStop i k) (s .says i k)
+        let x : getD more (next + 2 * i) 0 ≡ getD words (next + 2 * i) 0 = other _ (λ z. omega arith) (λ z. omega arith) in
+        let y : getD more (next + 2 * i + 1) 0 ≡ getD words (next + 2 * i + 1) 0 = other _ (λ z. omega arith) (λ z. omega arith) in
+        rw (x, y, List·getD-append ts (t ∷ []) noStop i k) (s .says i k)
     here i l false b =
         let k : length ts ≤ i = ltb-false _ _ b in
         let z : i ≡ length ts = omega (arith, n) in
-        rw (z, ← a, getD-set-same words at w 0 h, getD-append-seam ts t [] noStop) e
+        rw (z, ← a, its-word, its-mask, getD-append-seam ts t [] noStop) e
 
-    away : (j : ℕ) → (j < next) ⊎ (next + (length ts + 1) ≤ j) → j ≡ at → ⊥
-    away j (inl l) z = omega arith
-    away j (inr l) z = omega arith
-
-    wider : (j : ℕ) → (j < next) ⊎ (next + (length ts + 1) ≤ j) → (j < next) ⊎ (next + length ts ≤ j)
-    wider j (inl l) = inl l
-    wider j (inr l) = inr (omega arith)
+    behind : (j : ℕ) → (j < next) ⊎ (next + 2 * (length ts + 1) ≤ j) → getD more j 0 ≡ getD words₀ j 0
+    behind j (inl l) = other j (λ z. omega arith) (λ z. omega arith) ∙ s .others j (inl l)
+    behind j (inr l) = other j (λ z. omega arith) (λ z. omega arith) ∙ s .others j (inr (omega arith))
 
 -- The words of update data, of the first i columns.
 
@@ -95,20 +112,21 @@ module _ (cs : List Column) (next : ℕ) where
   updates-start words = say-start next words
 
   pub updates-next :
-      {words₀ words : List ℕ} {i w : ℕ} {c : Column} (slot : ℕ) → Updating words₀ words i → i < length cs → length cs ≤ 64 → next + i < length words →
-      c ≡ getD cs i noColumn → c ≡ asColumn (entryIn slot) → w ≡ stopWord (stopOf true c 0 (i % 64)) → Updating words₀ (set words (next + i) w) (i + 1)
-  updates-next {words₀} {words} {i} {w} {c} slot u h few room e f g =
+      {words₀ words : List ℕ} {i w m : ℕ} {c : Column} (slot : ℕ) → Updating words₀ words i → i < length cs → length cs ≤ 64 → next + 2 * i + 1 < length words →
+      c ≡ getD cs i noColumn → c ≡ asColumn (entryIn slot) → w ≡ stopWord (stopOf true c 0 (i % 64)) → m ≡ bitMask i →
+      Updating words₀ (set (set words (next + 2 * i) w) (next + 2 * i + 1) m) (i + 1)
+  updates-next {words₀} {words} {i} {w} {m} {c} slot u h few room e f g k =
       let ts : List Stop = dataStops true cs in
       let n : length (take i ts) ≡ i = omega (arith, length-take i ts, update-stops cs, h) in
       let t : getD ts i noStop ≡ stopOf true c 0 i = update-stop cs i h ∙ ap (λ (x : Column). stopOf true x 0 i) (sym e) in
       let more : take (i + 1) ts ≡ take i ts ++ (stopOf true c 0 i ∷ []) =
       ap (λ (k : ℕ). take k ts) (add-one i) ∙ take-suc ts i noStop (omega (arith, update-stops cs, h)) ∙ rw t refl in
-      rw more (say-more w (next + i) u (word-says true c 0 i slot (omega arith) (omega arith) f g) (omega (arith, n)) room)
+      rw more (say-more w m (next + 2 * i) u (word-says true c 0 i slot (omega arith) (omega arith) f g k) (omega (arith, n)) room)
 
   -- all of them, and the form
   pub updates-end :
-      {words₀ words : List ℕ} {i bytes form : ℕ} → Updating words₀ words i → length cs ≤ i → length cs ≤ 64 → next + length cs < 65536 →
-      next + length cs ≤ length words → bytes ≡ mapBytes (length cs) → form ≡ formOf next (length cs) bytes 0 0 → Added true cs next words₀ words form
+      {words₀ words : List ℕ} {i bytes form : ℕ} → Updating words₀ words i → length cs ≤ i → length cs ≤ 64 → next + 2 * length cs < 65536 →
+      next + 2 * length cs ≤ length words → bytes ≡ mapBytes (length cs) → form ≡ formOf next (length cs) bytes 0 0 → Added true cs next words₀ words form
   unfolding updateBytes
   updates-end {words₀} {words} {i} {bytes} {form} u h few near room b f =
       let n : length (dataStops true cs) ≡ length cs = update-stops cs in
@@ -184,18 +202,19 @@ module _
 
       -- a stop, and its word
       pub grow-stop :
-          isStop c ≡ true → (slot : ℕ) {w : ℕ} → c ≡ asColumn (entryIn slot) → w ≡ stopWord (stopOf (isNullable c) c (gap % 65536) (bit % 64)) →
-          length cs ≤ 64 → next + stops < length words → Growing cs next words₀ (set words (next + stops) w) (stops + 1) 0 (bit + n) (i + 1)
+          isStop c ≡ true → (slot : ℕ) {w m : ℕ} → c ≡ asColumn (entryIn slot) → w ≡ stopWord (stopOf (isNullable c) c (gap % 65536) (bit % 64)) →
+          m ≡ bitMask (pick (isNullable c) bit 63) → length cs ≤ 64 → next + 2 * stops + 1 < length words →
+          Growing cs next words₀ (set (set words (next + 2 * stops) w) (next + 2 * stops + 1) m) (stops + 1) 0 (bit + n) (i + 1)
       unfolding stopsFrom tailFrom
-      grow-stop s slot {w} a b few room =
+      grow-stop s slot {w} {m} a b k few room =
           let old : List Stop = stopsFrom isNullable isStop 0 ms in
           let t : Stop = stopOf (isNullable c) c gap bit in
           let more : stopsFrom isNullable isStop 0 (take (i + 1) (marks 0 cs)) ≡ old ++ (t ∷ []) = stops-more ∙ rw s refl in
-          let says : stopIn w ≡ t =
-          word-says (isNullable c) c gap bit slot (omega (arith, grown .few-gap, h, few)) (omega (arith, grown .few-bits, h, few)) a b in
+          let says : SayOne w m t =
+          word-says (isNullable c) c gap bit slot (omega (arith, grown .few-gap, h, few)) (omega (arith, grown .few-bits, h, few)) a b k in
           record {
             below = omega arith;
-            said = rw more (say-more w (next + stops) (grown .said) says (omega (arith, grown .count)) room);
+            said = rw more (say-more w m (next + 2 * stops) (grown .said) says (omega (arith, grown .count)) room);
             count = rw more (omega (arith, grown .count, length-append old (t ∷ [])));
             tail = sym (tail-more ∙ rw s refl);
             bits = bits-on;
@@ -224,7 +243,7 @@ module _
 -- All columns: the form of the schema.
 module _
     {cs : List Column} {next : ℕ} {words₀ words : List ℕ} {stops gap bit i : ℕ}
-    (grown : Growing cs next words₀ words stops gap bit i) (few : length cs ≤ 64) (near : next + length cs < 65536)
+    (grown : Growing cs next words₀ words stops gap bit i) (few : length cs ≤ 64) (near : next + 2 * length cs < 65536)
     {bytes : ℕ} (b : bytes ≡ mapBytes bit)
   where
     -- its parts have their room
@@ -238,7 +257,7 @@ module _
         )
 
     pub grow-end :
-        length cs ≤ i → next + length cs ≤ length words → {form always : ℕ} → always ≡ one (ltb bit (length cs)) → form ≡ formOf next stops bytes gap always →
+        length cs ≤ i → next + 2 * length cs ≤ length words → {form always : ℕ} → always ≡ one (ltb bit (length cs)) → form ≡ formOf next stops bytes gap always →
         Added false cs next words₀ words form
     unfolding presenceBytes
     grow-end l room {form} {always} y f =
@@ -266,6 +285,8 @@ module _
           others = λ j h. grown .said .others j (wider j h);
         }
       where
-        wider : (j : ℕ) → (j < next) ⊎ (next + length cs ≤ j) → (j < next) ⊎ (next + length (stopsFrom isNullable isStop 0 (take i (marks 0 cs))) ≤ j)
+        wider :
+            (j : ℕ) → (j < next) ⊎ (next + 2 * length cs ≤ j) →
+            (j < next) ⊎ (next + 2 * length (stopsFrom isNullable isStop 0 (take i (marks 0 cs))) ≤ j)
         wider j (inl h) = inl h
         wider j (inr h) = inr (omega (arith, grown .count, grown .few-stops, grown .below))

@@ -57,7 +57,7 @@ Shaped slots shapes n = (k : ℕ) → k < n → Shape shapes k (slotColumns slot
 
 -- the numbers that n schemas need
 abbrev pub shapesNeeded : (slots : List ℕ) (n : ℕ) → ℕ
-shapesNeeded slots n = 8 * n + 2 * columnCount (schemasIn 0 n slots)
+shapesNeeded slots n = 8 * n + 4 * columnCount (schemasIn 0 n slots)
 
 -- What keeping the schemas of a table leaves: where the table is sound and there is room, their shapes.
 pub record Kept (slots : List ℕ) (n : ℕ) (entry exit : List ℕ) : Type 0 where
@@ -77,16 +77,16 @@ pub record MasksAdded (cs : List Column) (k : ℕ) (entry exit : List ℕ) : Typ
   pub long : length exit ≡ length entry
   pub others : (i : ℕ) → (i < 8 * k + 2) ⊎ (8 * k + 6 ≤ i) → getD exit i 0 ≡ getD entry i 0
 
--- the slots of a schema lie in the table, and its words have so much room
+-- the slots of a schema lie in the table, and its stops have so much room
 pub record HasRoom (first count next room : ℕ) : Type 0 where
   pub few : count ≤ 64
   pub inside : first + count ≤ 256
-  pub words : next + 2 * count ≤ room
+  pub words : next + 4 * count ≤ room
 
--- What keeping one schema leaves: its shape, with its words from `next` on, and all numbers of those before it.
+-- What keeping one schema leaves: its shape, with its stops from `next` on, and all numbers of those before it.
 pub record SchemaAdded (cs : List Column) (k next : ℕ) (entry exit : List ℕ) : Type 0 where
   pub shape : Shape exit k cs
   pub first : firstIn (getD exit (formAt false k) 0) ≡ next
-  pub changes : 1 ≤ k → firstIn (getD exit (formAt true k) 0) ≡ next + length cs
+  pub changes : 1 ≤ k → firstIn (getD exit (formAt true k) 0) ≡ next + 2 * length cs
   pub long : length exit ≡ length entry
   pub others : (i : ℕ) → (i < 8 * k) ⊎ ((8 * k + 8 ≤ i) × (i < next)) → getD exit i 0 ≡ getD entry i 0

@@ -1,7 +1,8 @@
--- Promise: what code keeps of a file's schemas for going over rows quickly, in one list of numbers: eight for each schema, then a word for each
--- stop. Of the eight the first is the form of original rows, the second that of update data; masks are the next four.
+-- Promise: what code keeps of a file's schemas for going over rows quickly, in one list of numbers: eight for each schema, then two for
+-- each stop: its word and its mask. Of the eight the first is the form of original rows, the second that of update data; masks of columns
+-- are the next four.
 -- Assumes nothing.
-use Prim.Native.Nat.{ℕ, _+_, _*_, _/_, _%_, _<_, _≤_}
+use Prim.Native.Nat.{ℕ, _+_, _*_, _-_, _/_, _%_, _^_, _<_, _≤_}
 use mathlib.Core.Path.{_≡_}
 use mathlib.Core.Logic.{_⊎_}
 use mathlib.Core.List.{List, map}
@@ -41,14 +42,23 @@ abbrev pub formAt : (update : Bool) (k : ℕ) → ℕ
 formAt false k = 8 * k
 formAt true k = 8 * k + 1
 
--- words from `first` on say these stops
+-- a mask with one bit, in a number like that of a map: the first bit is on top
+abbrev pub bitMask : (bit : ℕ) → ℕ
+bitMask bit = 2 ^ (63 - bit)
+
+-- A word says a stop, and the mask beside it has the stop's bit.
+pub record SayOne (word mask : ℕ) (t : Stop) : Type 0 where
+  pub stop : stopIn word ≡ t
+  pub bit : mask ≡ bitMask (t .bit)
+
+-- the numbers from `first` on say these stops, a word and a mask each
 abbrev pub SayAll : (words : List ℕ) (first : ℕ) → List Stop → Type 0
-SayAll words first ts = (i : ℕ) → i < length ts → stopIn (getD words (first + i) 0) ≡ getD ts i noStop
+SayAll words first ts = (i : ℕ) → i < length ts → SayOne (getD words (first + 2 * i) 0) (getD words (first + 2 * i + 1) 0) (getD ts i noStop)
 
 -- A form says what row data of these columns are like.
 pub record Formed (shapes : List ℕ) (form : ℕ) (update : Bool) (cs : List Column) : Type 0 where
   pub stops : SayAll shapes (firstIn form) (dataStops update cs)
-  pub inside : firstIn form + length cs ≤ length shapes
+  pub inside : firstIn form + 2 * length cs ≤ length shapes
   pub count : stopsIn form ≡ length (dataStops update cs)
   pub map : mapIn form ≡ dataMap update cs
   pub tail : tailIn form ≡ dataTail update cs
@@ -75,9 +85,9 @@ pub record Held (slots : List ℕ) (k : ℕ) : Type 0 where
   pub few : countIn (getD slots (schemaSlot k) 0) ≤ 64
   pub inside : startIn (getD slots (schemaSlot k) 0) + countIn (getD slots (schemaSlot k) 0) ≤ 256
 
--- What making the words of one schema leaves: its form and its stops, from word `next` on, and all other numbers.
+-- What keeping the stops of one schema leaves: its form and its stops, from number `next` on, and all other numbers.
 pub record Added (update : Bool) (cs : List Column) (next : ℕ) (entry exit : List ℕ) (form : ℕ) : Type 0 where
   pub formed : Formed exit form update cs
   pub first : firstIn form ≡ next
   pub long : length exit ≡ length entry
-  pub others : (i : ℕ) → (i < next) ⊎ (next + length cs ≤ i) → getD exit i 0 ≡ getD entry i 0
+  pub others : (i : ℕ) → (i < next) ⊎ (next + 2 * length cs ≤ i) → getD exit i 0 ≡ getD entry i 0

@@ -1,15 +1,31 @@
-// Masks of columns, made once a call. By them a map is seen at once to keep its rules.
+// Masks of bits of maps, made once a call: that of a stop's bit, and those of columns, by which a map is seen at once to keep its rules.
 ghost use mathlib.Core.Path.{_≡_};
 ghost use Prim.Native.Nat.{_+_, _*_, _≤_, _<_};
 ghost use lib.ListN.{length};
 ghost use mathlib.Core.List.{map};
+ghost use Rattle.wire.specs.Read.{pick};
 ghost use Rattle.tree.specs.Schemas.{asColumn};
 ghost use Rattle.tree.specs.Table.{entriesIn};
 ghost use Rattle.walk.specs.Presence.{mark};
+ghost use Rattle.shapes.specs.Shapes.{bitMask};
 ghost use Rattle.shapes.specs.Masks.{BitAdded, MasksAdded, isMarked, isUnforced};
 use column::column::Column;
 use column::packed::unpack;
 use row::rows::one;
+
+// The first bit of a map, as a mask.
+const TOP: usize = 9_223_372_036_854_775_808;
+
+// The mask of a stop: the one bit of a map that decides on its field. A field that is always there has the last.
+pub(crate) fn stop_mask(free: bool, bit: usize) -> usize
+    requires { ⌜ bit < 64 ⌝ }
+    ensures { λ r. ⌜ r ≡ bitMask (pick free bit 63) ⌝ }
+{
+    if free {
+        return TOP >> bit;
+    }
+    1
+}
 
 // A mask with bit `i` set where `on` says so.
 fn with_bit(mask: usize, i: usize, on: bool) -> usize
@@ -17,7 +33,7 @@ fn with_bit(mask: usize, i: usize, on: bool) -> usize
     ensures { λ r. ⌜ BitAdded mask i on r ⌝ }
 {
     if on {
-        return mask | (9_223_372_036_854_775_808 >> i);
+        return mask | (TOP >> i);
     }
     mask
 }

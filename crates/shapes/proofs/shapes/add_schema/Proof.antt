@@ -78,4 +78,5 @@ add-schema-spec =
     tie.close
     (tie.spec
     add-masks-requires add-stops-requires (λ c. search needs) (λ c. search needs) slice-write-shapes same-length returns (λ c. search needs)
-    add-updates-requires (λ c. search needs) (λ c. search needs) (λ c. search needs) slice-write-shapes-2 same-length-2 returns-2)
+    (λ c. search needs) add-updates-requires (λ c. search needs) (λ c. search needs) (λ c. search needs) slice-write-shapes-2 same-length-2
+    returns-2)

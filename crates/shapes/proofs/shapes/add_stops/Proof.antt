@@ -5,9 +5,11 @@ use mathlib.Core.Path.{ap, sym, _∙_}
 use mathlib.Core.Bool.{Bool}
 use native.Mathlib.Omega.{arith}
 use lib.Dec.{ltb}
-use lib.ListN.{getD}
+use lib.ListN.{getD, length-set}
+use Rattle.wire.specs.Read.{pick}
 use Rattle.column.proofs.Stops.{width-few}
 use Rattle.walk.specs.Presence.{one}
+use Rattle.shapes.specs.Shapes.{bitMask}
 use Rattle.shapes.proofs.Slots.{inSlots, length-slots, slot-at}
 use Rattle.shapes.proofs.StopsMade.{Growing, one-most, grow-start, grow-stop, grow-plain, grow-fits, grow-end}
 use borrow.Author.Needs.{needs}
@@ -25,56 +27,36 @@ loop-holds c =
     let args = c .before .args in
     grow-start (inSlots (args .slots .now) (args .first) (args .count)) (args .next) (args .shapes .now)
 
-add-shapes : tie.Need-add-shapes Inv-loop μ-loop
-add-shapes c =
-    let pre = c .before .before .before .before .before .before .before .before .before .pre in
-    let loop = c .before .before .before .before .before .before .before .loop in
-    let loop-test = c .before .before .before .before .before .before .loop-test in
-    omega (arith, pre, loop-test .taken, loop .inv .few-stops, loop .inv .said .long)
-
-mul-shapes : tie.Need-mul-shapes Inv-loop μ-loop
-mul-shapes c =
-    let pre = c .before .before .before .before .before .before .before .before .before .pre in
-    let loop = c .before .before .before .before .before .before .before .loop in
-    let loop-test = c .before .before .before .before .before .before .loop-test in
-    omega (arith, pre, loop-test .taken, loop .inv .few-stops, loop .inv .said .long)
-
-slice-write-shapes : tie.Need-slice-write-shapes Inv-loop μ-loop
-slice-write-shapes c =
-    let pre = c .before .before .before .before .before .before .before .before .before .pre in
-    let loop = c .before .before .before .before .before .before .before .loop in
-    let loop-test = c .before .before .before .before .before .before .loop-test in
-    omega (arith, pre, loop-test .taken, loop .inv .few-stops, loop .inv .said .long)
-
-add-stops : tie.Need-add-stops Inv-loop μ-loop
-add-stops c =
-    let pre = c .before .before .before .before .before .before .before .before .before .pre in
-    let loop = c .before .before .before .before .before .before .before .loop in
-    let loop-test = c .before .before .before .before .before .before .loop-test in
-    omega (arith, pre, loop-test .taken, loop .inv .few-stops, loop .inv .said .long)
-
-add-bit : tie.Need-add-bit Inv-loop μ-loop
-add-bit c =
+slice-write-shapes-2 : tie.Need-slice-write-shapes-2 Inv-loop μ-loop
+slice-write-shapes-2 c =
     let pre = c .before .before .before .before .before .before .before .before .before .before .pre in
     let loop = c .before .before .before .before .before .before .before .before .loop in
     let loop-test = c .before .before .before .before .before .before .before .loop-test in
-    let is-nullable = c .before .before .before .before .is-nullable in
+    simp length-set (omega (arith, pre, loop-test .taken, loop .inv .few-stops, loop .inv .said .long))
+
+add-bit : tie.Need-add-bit Inv-loop μ-loop
+add-bit c =
+    let pre = c .before .before .before .before .before .before .before .before .before .before .before .pre in
+    let loop = c .before .before .before .before .before .before .before .before .before .loop in
+    let loop-test = c .before .before .before .before .before .before .before .before .loop-test in
+    let is-nullable = c .before .before .before .before .before .is-nullable in
     omega (arith, pre, loop-test .taken, loop .inv .few-bits, c .one .ensures, one-most (is-nullable .result))
 
 loop-again : tie.Need-loop-again Inv-loop μ-loop
 loop-again c =
-    let args = c .before .before .before .before .before .before .before .before .before .before .args in
-    let pre = c .before .before .before .before .before .before .before .before .before .before .pre in
-    let loop = c .before .before .before .before .before .before .before .before .loop in
-    let loop-test = c .before .before .before .before .before .before .before .loop-test in
-    let unpack = c .before .before .before .before .before .unpack in
-    let is-nullable = c .before .before .before .before .is-nullable in
-    let is-stop = c .before .before .before .is-stop in
-    let if1 = c .before .before .if1 in
+    let args = c .before .before .before .before .before .before .before .before .before .before .before .args in
+    let pre = c .before .before .before .before .before .before .before .before .before .before .before .pre in
+    let loop = c .before .before .before .before .before .before .before .before .before .loop in
+    let loop-test = c .before .before .before .before .before .before .before .before .loop-test in
+    let unpack = c .before .before .before .before .before .before .unpack in
+    let is-nullable = c .before .before .before .before .before .is-nullable in
+    let is-stop = c .before .before .before .before .is-stop in
+    let if1 = c .before .before .before .if1 in
+    let stop-word = c .before .before .stop-word in
     grow-stop (loop .inv) (omega (arith, (length-slots (args .slots .now) (args .first) (args .count)), loop-test .taken)) (unpack .result) (unpack .ensures ∙ sym (slot-at (args .slots .now) (args .first) (args .count) (loop .i) (loop-test .taken)))
     (c .one .ensures ∙ ap (λ (b : Bool). one b) (is-nullable .ensures)) (sym (is-stop .ensures) ∙ if1 .taken)
-    (getD (args .slots .now) (args .first + loop .i) 0) (unpack .ensures) (rw (← is-nullable .ensures) (c .before .stop-word .ensures))
-    (omega (arith, pre, (length-slots (args .slots .now) (args .first) (args .count)))) (omega (arith, pre, loop-test .taken, loop .inv .few-stops, loop .inv .said .long))
+    (getD (args .slots .now) (args .first + loop .i) 0) (unpack .ensures) (rw (← is-nullable .ensures) (stop-word .ensures))
+    (c .before .stop-mask .ensures ∙ ap (λ (b : Bool). bitMask (pick b (loop .bit) 63)) (is-nullable .ensures)) (omega (arith, pre, (length-slots (args .slots .now) (args .first) (args .count)))) (omega (arith, pre, loop-test .taken, loop .inv .few-stops, loop .inv .said .long))
 
 add-gap : tie.Need-add-gap Inv-loop μ-loop
 add-gap c =
@@ -127,6 +109,8 @@ add-stops-spec =
     tie.close
     (tie.spec
     Inv-loop μ-loop loop-holds (λ c. search needs) (λ c. search needs) (λ c. search needs) (λ c κs. search needs) (λ c κs. search needs)
-    (λ c κs. search needs) (λ c κs. search needs) add-shapes mul-shapes slice-write-shapes add-stops (λ c κs. search needs) add-bit
-    (λ c. search needs) (λ c. search needs) loop-again (λ c κs. search needs) add-gap (λ c κs. search needs) add-bit-2 (λ c. search needs)
-    (λ c. search needs) loop-again-2 (λ c κs. search needs) (λ c κs. search needs) form-of-requires (λ c. search needs) returns)
+    (λ c κs. search needs) (λ c κs. search needs) (λ c. search needs) (λ c. search needs) (λ c. search needs) (λ c. search needs)
+    (λ c κs. search needs) (λ c. search needs) (λ c. search needs) (λ c. search needs) (λ c. search needs) slice-write-shapes-2
+    (λ c. search needs) (λ c κs. search needs) add-bit (λ c. search needs) (λ c. search needs) loop-again (λ c κs. search needs) add-gap
+    (λ c κs. search needs) add-bit-2 (λ c. search needs) (λ c. search needs) loop-again-2 (λ c κs. search needs) (λ c κs. search needs)
+    form-of-requires (λ c. search needs) returns)

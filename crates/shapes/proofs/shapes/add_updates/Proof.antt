@@ -3,7 +3,7 @@
 use Prim.Native.Nat.{_+_, _-_, _≤_}
 use mathlib.Core.Path.{sym, _∙_}
 use native.Mathlib.Omega.{arith}
-use lib.ListN.{getD}
+use lib.ListN.{getD, length-set}
 use Rattle.walk.proofs.Laws.{map-few}
 use Rattle.shapes.proofs.Slots.{inSlots, length-slots, slot-at}
 use Rattle.shapes.proofs.StopsMade.{Updating, updates-start, updates-next, updates-end}
@@ -22,24 +22,24 @@ loop-holds c =
     let args = c .before .args in
     (search needs, updates-start (inSlots (args .slots .now) (args .first) (args .count)) (args .next) (args .shapes .now))
 
-slice-write-shapes : tie.Need-slice-write-shapes Inv-loop μ-loop
-slice-write-shapes c =
-    let pre = c .before .before .before .before .before .before .pre in
-    let loop = c .before .before .before .before .loop in
-    let loop-test = c .before .before .before .loop-test in
-    omega (arith, pre, loop-test .taken, loop .inv .1 .long)
+slice-write-shapes-2 : tie.Need-slice-write-shapes-2 Inv-loop μ-loop
+slice-write-shapes-2 c =
+    let pre = c .before .before .before .before .before .before .before .pre in
+    let loop = c .before .before .before .before .before .loop in
+    let loop-test = c .before .before .before .before .loop-test in
+    simp length-set (omega (arith, pre, loop-test .taken, loop .inv .1 .long))
 
 loop-again : tie.Need-loop-again Inv-loop μ-loop
 loop-again c =
-    let args = c .before .before .before .before .before .before .args in
-    let pre = c .before .before .before .before .before .before .pre in
-    let loop = c .before .before .before .before .loop in
-    let loop-test = c .before .before .before .loop-test in
-    let unpack = c .before .unpack in (
+    let args = c .before .before .before .before .before .before .before .args in
+    let pre = c .before .before .before .before .before .before .before .pre in
+    let loop = c .before .before .before .before .before .loop in
+    let loop-test = c .before .before .before .before .loop-test in
+    let unpack = c .before .before .unpack in (
       search needs,
       updates-next (inSlots (args .slots .now) (args .first) (args .count)) (args .next) (getD (args .slots .now) (args .first + loop .i) 0) (loop .inv .1)
           (omega (arith, (length-slots (args .slots .now) (args .first) (args .count)), loop-test .taken)) (omega (arith, (length-slots (args .slots .now) (args .first) (args .count)), pre)) (omega (arith, pre, loop-test .taken, loop .inv .1 .long))
-          (unpack .ensures ∙ sym (slot-at (args .slots .now) (args .first) (args .count) (loop .i) (loop-test .taken))) (unpack .ensures) (c .stop-word .ensures),
+          (unpack .ensures ∙ sym (slot-at (args .slots .now) (args .first) (args .count) (loop .i) (loop-test .taken))) (unpack .ensures) (c .before .stop-word .ensures) (c .stop-mask .ensures),
     )
 
 form-of-requires : tie.Need-form-of-requires Inv-loop μ-loop
@@ -64,5 +64,6 @@ add-updates-spec =
     tie.close
     (tie.spec
     Inv-loop μ-loop loop-holds (λ c. search needs) (λ c. search needs) (λ c. search needs) (λ c κs. search needs) (λ c κs. search needs)
-    (λ c. search needs) (λ c. search needs) slice-write-shapes (λ c. search needs) (λ c. search needs) loop-again (λ c κs. search needs)
-    form-of-requires (λ c. search needs) returns)
+    (λ c. search needs) (λ c. search needs) (λ c. search needs) (λ c. search needs) (λ c κs. search needs) (λ c. search needs)
+    (λ c. search needs) (λ c. search needs) (λ c. search needs) slice-write-shapes-2 (λ c. search needs) (λ c. search needs) loop-again
+    (λ c κs. search needs) form-of-requires (λ c. search needs) returns)
