@@ -27,7 +27,7 @@ use wire::error::Input;
 pub(crate) const FEW_NUMBERS: usize = 192;
 
 // So many hold those of any file.
-pub(crate) const MOST_NUMBERS: usize = 2_560;
+pub(crate) const MOST_NUMBERS: usize = 3_072;
 
 // Reads the schema file of a section into a table of slots, where neither is over the limit.
 pub(crate) fn read_schemas(file: &[u8], section: &[u8], slots: &mut [u64; 512]) -> PlaceRead
@@ -70,7 +70,7 @@ fn check_rows(slots: &[u64; 512], schemas: usize, columns: usize, section: &[u8]
     requires { ⌜ Sound (now slots) schemas × (columnCount (schemasIn 0 schemas (now slots)) ≤ columns) × (columns ≤ 256) × (length (now section) ≤ 16777216) ⌝ }
     ensures { λ r. ⌜ toldRows r ≡ rowCount (about input.Section (sectionRows (schemasIn 0 schemas (now (slots .entry))) (now (section .entry)))) ⌝ }
 {
-    if 8 * schemas + 2 * columns <= FEW_NUMBERS {
+    if 8 * schemas + 4 * columns <= FEW_NUMBERS {
         let mut shapes = [0usize; FEW_NUMBERS];
         keep_schemas(slots, schemas, &mut shapes);
         return check_shaped(slots, &shapes, schemas, section);

@@ -16,17 +16,21 @@ use update::data::open_data;
 use update::data::pass_column;
 use wire::integer::IntRead;
 
-// Where the data at `start` of a row of schema `number` end: of update data where `update` says so. 0 says nothing.
+// Where the data at `start` of a row of this kind end: update data of kind 3, else original ones of schema `number`. 0 says nothing, and so does a kind
+// of 0.
 pub(crate) fn quick_end(
     shapes: &[usize],
     number: usize,
-    update: bool,
+    kind: usize,
     section: &[u8],
     start: usize,
 ) -> usize
-    ensures { λ r. ⌜ QuickEnd (now (shapes .entry)) number update (now (section .entry)) start r ⌝ }
+    ensures { λ r. ⌜ QuickEnd (now (shapes .entry)) number kind (now (section .entry)) start r ⌝ }
 {
-    if update {
+    if kind == 0 {
+        return 0;
+    }
+    if kind == 3 {
         if number == 0 {
             return 0;
         }

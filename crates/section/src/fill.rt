@@ -74,7 +74,7 @@ fn element_end(
         return at + 5;
     }
     let start = start_for(kind, at);
-    let end = quick_end(shapes, number, kind == 3, section, start);
+    let end = quick_end(shapes, number, kind, section, start);
     if end == 0 {
         return walked_end(slots, number, kind == 3, section, start);
     }

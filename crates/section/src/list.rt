@@ -86,7 +86,7 @@ fn list_rows(
     requires { ⌜ Sound (now slots) schemas × (columnCount (schemasIn 0 schemas (now slots)) ≤ columns) × (columns ≤ 256) × (length (now section) ≤ 16777216) ⌝ }
     ensures { λ r. ⌜ Listed (rowsFitting (schemasIn 0 schemas (now (slots .entry))) (now (section .entry)) (length (now (table .entry)))) (now (table .entry)) (now (table .exit)) r ⌝ }
 {
-    if 8 * schemas + 2 * columns <= FEW_NUMBERS {
+    if 8 * schemas + 4 * columns <= FEW_NUMBERS {
         let mut shapes = [0usize; FEW_NUMBERS];
         keep_schemas(slots, schemas, &mut shapes);
         return list_sized(slots, &shapes, schemas, section, table);

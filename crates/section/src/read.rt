@@ -4,6 +4,7 @@ ghost use lib.ListN.{length};
 ghost use Rattle.tree.specs.Table.{schemasIn};
 ghost use Rattle.section.specs.Sizes.{Blank};
 ghost use Rattle.section.specs.Scan.{Ready, Scanned};
+use crate::ends::quick_end;
 use crate::ends::turn;
 use crate::ends::turns_of;
 use crate::heads::Head;
@@ -11,7 +12,7 @@ use crate::heads::head_at;
 use crate::notes::is_stepped;
 use crate::notes::note;
 use crate::runs::run;
-use crate::said::element_said;
+use crate::said::head_said;
 use wire::error::Error;
 use wire::integer::IntRead;
 
@@ -41,8 +42,9 @@ pub(crate) fn scan(
     let answer = 'section: loop {
         let n = run(section, at, step);
         if n == 0 {
-            let said = element_said(slots, shapes, schemas, section, at, child, last);
-            if said.end == 0 {
+            let said = head_said(slots, schemas, section, at, child, last);
+            let next = quick_end(shapes, said.number, said.kind, section, said.start);
+            if next == 0 {
                 match head_at(slots, schemas, section, at, child, last) {
                     Head::Refused(e) => {
                         break 'section RowsRead::Refused(e);
@@ -88,8 +90,8 @@ pub(crate) fn scan(
                     }
                 }
             } else {
-                used = note(sizes, used, said.end - at, is_stepped(step, section[at]));
-                at = said.end;
+                used = note(sizes, used, next - at, is_stepped(step, section[at]));
+                at = next;
                 if said.kind == 3 {
                     child = 0;
                 } else {

@@ -36,7 +36,7 @@ returns-3 c =
     let args = c .before .before .before .before .before .before .args in
     let if1 = c .before .before .before .if1 in
     let start-for = c .before .before .start-for in
-    λ shape. element-ended (args .kind) _ (args .section .now) (args .at) (if1 .left) (start-for .ensures) (end-said (eqb (args .kind) 3) (slotColumns (args .slots .now) (args .number)) (args .section .now) (start-for .result) (c .before .quick-end .ensures _ shape) (c .if2 .left))
+    λ shape. element-ended (args .kind) _ (args .section .now) (args .at) (if1 .left) (start-for .ensures) (end-said (eqb (args .kind) 3) (slotColumns (args .slots .now) (args .number)) (args .section .now) (start-for .result) (c .before .quick-end .ensures .1 _ shape) (c .if2 .left))
 
 pub element-end-spec : {M : Type 1} → statement M
 element-end-spec =

@@ -22,10 +22,10 @@ use Rattle.section.proofs.read.scan.Statement.{statement}
 use Rattle.section.proofs.read.scan.Tie as tie
 
 abbrev Inv-loop : tie.InvT-loop
-Inv-loop slots shapes schemas section step sizes at rows child last used n kind number id start update turns end₀ i₀ end i = AtTurn update (slotColumns slots number) section start end turns i
+Inv-loop slots shapes schemas section step sizes at rows child last used n next kind number id start update turns end₀ i₀ end i = AtTurn update (slotColumns slots number) section start end turns i
 
 abbrev μ-loop : tie.MeasureT-loop
-μ-loop slots shapes schemas section step sizes at rows child last used n kind number id start update turns end₀ i₀ end i = turns - i
+μ-loop slots shapes schemas section step sizes at rows child last used n next kind number id start update turns end₀ i₀ end i = turns - i
 
 abbrev Inv-section : tie.InvT-section
 Inv-section slots shapes schemas section step sizes₀ at₀ rows₀ child₀ last₀ used₀ sizes at rows child last used = AtScan slots schemas section step sizes₀ sizes at rows child used
@@ -55,8 +55,8 @@ run-requires c κs =
     let pre = c .before .before .before .before .pre in
     (omega (arith, few-rows _ _ _ _ _ _ _ _ _ _ (c .section .inv)), pre .0 .sized, pre .0 .short)
 
-element-said-requires : tie.Need-element-said-requires Inv-loop μ-loop Inv-section μ-section
-element-said-requires c κs =
+head-said-requires : tie.Need-head-said-requires Inv-loop μ-loop Inv-section μ-section
+head-said-requires c κs =
     let pre = c .before .before .before .before .before .before .pre in
     let section = c .before .before .section in
     (pre .0 .sound, section .inv .nested, pre .0 .sized)
@@ -164,73 +164,79 @@ section-again-3 c =
 
 sub-note-2 : tie.Need-sub-note-2 Inv-loop μ-loop Inv-section μ-section
 sub-note-2 c =
-    let pre = c .before .before .before .before .before .before .before .before .before .before .before .pre in
-    let shared-slice-known2 = c .before .before .before .before .before .before .before .before .before .shared-slice-known2 in
-    let section = c .before .before .before .before .before .before .before .section in
-    let element-said = c .before .before .before .before .element-said in
-    let if2 = c .before .before .if2 in
-    omega (arith, data-end _ _ _ _ _ _ _ _ _ _ (section .inv) (scan-ahead _ _ _ _ _ _ _ _ _ _ (section .inv) (element-said .result .kind) (element-said .result .number) ((element-said .ensures (if2 .left)) .id) ((element-said .ensures (if2 .left)) .start) (pre .0 .sound .top) (λ x. shared-slice-known2 .given x .fits) ((element-said .ensures (if2 .left)) .head)) _ (said-end ((element-said .ensures (if2 .left)) .ends (pre .0 .shaped _ (ahead-number _ _ _ _ _ _ _ _ _ _ (section .inv) (scan-ahead _ _ _ _ _ _ _ _ _ _ (section .inv) (element-said .result .kind) (element-said .result .number) ((element-said .ensures (if2 .left)) .id) ((element-said .ensures (if2 .left)) .start) (pre .0 .sound .top) (λ x. shared-slice-known2 .given x .fits) ((element-said .ensures (if2 .left)) .head))))) (if2 .left)))
+    let pre = c .before .before .before .before .before .before .before .before .before .before .pre in
+    let shared-slice-known2 = c .before .before .before .before .before .before .before .before .shared-slice-known2 in
+    let section = c .before .before .before .before .before .before .section in
+    let head-said = c .before .before .before .head-said in
+    let quick-end = c .before .before .quick-end in
+    let if2 = c .before .if2 in
+    omega (arith, data-end _ _ _ _ _ _ _ _ _ _ (section .inv) (scan-ahead _ _ _ _ _ _ _ _ _ _ (section .inv) (head-said .result .kind) (head-said .result .number) ((head-said .ensures (λ z. if2 .left (quick-end .ensures .0 z))) .id) (head-said .result .start) (pre .0 .sound .top) (λ x. shared-slice-known2 .given x .fits) ((head-said .ensures (λ z. if2 .left (quick-end .ensures .0 z))) .head)) _ (said-end (quick-end .ensures .1 _ (pre .0 .shaped _ (ahead-number _ _ _ _ _ _ _ _ _ _ (section .inv) (scan-ahead _ _ _ _ _ _ _ _ _ _ (section .inv) (head-said .result .kind) (head-said .result .number) ((head-said .ensures (λ z. if2 .left (quick-end .ensures .0 z))) .id) (head-said .result .start) (pre .0 .sound .top) (λ x. shared-slice-known2 .given x .fits) ((head-said .ensures (λ z. if2 .left (quick-end .ensures .0 z))) .head))))) (if2 .left)))
 
 shared-slice-read-is-stepped-2 : tie.Need-shared-slice-read-is-stepped-2 Inv-loop μ-loop Inv-section μ-section
 shared-slice-read-is-stepped-2 c =
-    let pre = c .before .before .before .before .before .before .before .before .before .before .before .before .pre in
-    let shared-slice-known2 = c .before .before .before .before .before .before .before .before .before .before .shared-slice-known2 in
-    let section = c .before .before .before .before .before .before .before .before .section in
-    let element-said = c .before .before .before .before .before .element-said in
-    let if2 = c .before .before .before .if2 in
-    ahead-inside _ _ _ _ _ _ _ _ _ _ (section .inv) (scan-ahead _ _ _ _ _ _ _ _ _ _ (section .inv) (element-said .result .kind) (element-said .result .number) ((element-said .ensures (if2 .left)) .id) ((element-said .ensures (if2 .left)) .start) (pre .0 .sound .top) (λ x. shared-slice-known2 .given x .fits) ((element-said .ensures (if2 .left)) .head))
+    let pre = c .before .before .before .before .before .before .before .before .before .before .before .pre in
+    let shared-slice-known2 = c .before .before .before .before .before .before .before .before .before .shared-slice-known2 in
+    let section = c .before .before .before .before .before .before .before .section in
+    let head-said = c .before .before .before .before .head-said in
+    let quick-end = c .before .before .before .quick-end in
+    let if2 = c .before .before .if2 in
+    ahead-inside _ _ _ _ _ _ _ _ _ _ (section .inv) (scan-ahead _ _ _ _ _ _ _ _ _ _ (section .inv) (head-said .result .kind) (head-said .result .number) ((head-said .ensures (λ z. if2 .left (quick-end .ensures .0 z))) .id) (head-said .result .start) (pre .0 .sound .top) (λ x. shared-slice-known2 .given x .fits) ((head-said .ensures (λ z. if2 .left (quick-end .ensures .0 z))) .head))
 
 note-requires-3 : tie.Need-note-requires-3 Inv-loop μ-loop Inv-section μ-section
 note-requires-3 c κs =
-    let pre = c .before .before .before .before .before .before .before .before .before .before .before .before .before .pre in
-    let section = c .before .before .before .before .before .before .before .before .before .section in
+    let pre = c .before .before .before .before .before .before .before .before .before .before .before .before .pre in
+    let section = c .before .before .before .before .before .before .before .before .section in
     (omega (arith, section .inv .long, pre .1 .most), section .inv .room)
 
 section-less-4 : tie.Need-section-less-4 Inv-loop μ-loop Inv-section μ-section
 section-less-4 c =
-    let pre = c .before .before .before .before .before .before .before .before .before .before .before .before .before .before .before .before .before .before .pre in
-    let shared-slice-known2 = c .before .before .before .before .before .before .before .before .before .before .before .before .before .before .before .before .shared-slice-known2 in
-    let section = c .before .before .before .before .before .before .before .before .before .before .before .before .before .before .section in
-    let element-said = c .before .before .before .before .before .before .before .before .before .before .before .element-said in
-    let if2 = c .before .before .before .before .before .before .before .before .before .if2 in
-    omega (arith, data-end _ _ _ _ _ _ _ _ _ _ (section .inv) (scan-ahead _ _ _ _ _ _ _ _ _ _ (section .inv) (element-said .result .kind) (element-said .result .number) ((element-said .ensures (if2 .left)) .id) ((element-said .ensures (if2 .left)) .start) (pre .0 .sound .top) (λ x. shared-slice-known2 .given x .fits) ((element-said .ensures (if2 .left)) .head)) _ (said-end ((element-said .ensures (if2 .left)) .ends (pre .0 .shaped _ (ahead-number _ _ _ _ _ _ _ _ _ _ (section .inv) (scan-ahead _ _ _ _ _ _ _ _ _ _ (section .inv) (element-said .result .kind) (element-said .result .number) ((element-said .ensures (if2 .left)) .id) ((element-said .ensures (if2 .left)) .start) (pre .0 .sound .top) (λ x. shared-slice-known2 .given x .fits) ((element-said .ensures (if2 .left)) .head))))) (if2 .left)))
+    let pre = c .before .before .before .before .before .before .before .before .before .before .before .before .before .before .before .before .before .pre in
+    let shared-slice-known2 = c .before .before .before .before .before .before .before .before .before .before .before .before .before .before .before .shared-slice-known2 in
+    let section = c .before .before .before .before .before .before .before .before .before .before .before .before .before .section in
+    let head-said = c .before .before .before .before .before .before .before .before .before .before .head-said in
+    let quick-end = c .before .before .before .before .before .before .before .before .before .quick-end in
+    let if2 = c .before .before .before .before .before .before .before .before .if2 in
+    omega (arith, data-end _ _ _ _ _ _ _ _ _ _ (section .inv) (scan-ahead _ _ _ _ _ _ _ _ _ _ (section .inv) (head-said .result .kind) (head-said .result .number) ((head-said .ensures (λ z. if2 .left (quick-end .ensures .0 z))) .id) (head-said .result .start) (pre .0 .sound .top) (λ x. shared-slice-known2 .given x .fits) ((head-said .ensures (λ z. if2 .left (quick-end .ensures .0 z))) .head)) _ (said-end (quick-end .ensures .1 _ (pre .0 .shaped _ (ahead-number _ _ _ _ _ _ _ _ _ _ (section .inv) (scan-ahead _ _ _ _ _ _ _ _ _ _ (section .inv) (head-said .result .kind) (head-said .result .number) ((head-said .ensures (λ z. if2 .left (quick-end .ensures .0 z))) .id) (head-said .result .start) (pre .0 .sound .top) (λ x. shared-slice-known2 .given x .fits) ((head-said .ensures (λ z. if2 .left (quick-end .ensures .0 z))) .head))))) (if2 .left)))
 
 section-again-4 : tie.Need-section-again-4 Inv-loop μ-loop Inv-section μ-section
 section-again-4 c =
-    let pre = c .before .before .before .before .before .before .before .before .before .before .before .before .before .before .before .before .before .before .pre in
-    let shared-slice-known2 = c .before .before .before .before .before .before .before .before .before .before .before .before .before .before .before .before .shared-slice-known2 in
-    let section = c .before .before .before .before .before .before .before .before .before .before .before .before .before .before .section in
-    let element-said = c .before .before .before .before .before .before .before .before .before .before .before .element-said in
-    let if2 = c .before .before .before .before .before .before .before .before .before .if2 in
+    let pre = c .before .before .before .before .before .before .before .before .before .before .before .before .before .before .before .before .before .pre in
+    let shared-slice-known2 = c .before .before .before .before .before .before .before .before .before .before .before .before .before .before .before .shared-slice-known2 in
+    let section = c .before .before .before .before .before .before .before .before .before .before .before .before .before .section in
+    let head-said = c .before .before .before .before .before .before .before .before .before .before .head-said in
+    let quick-end = c .before .before .before .before .before .before .before .before .before .quick-end in
+    let if2 = c .before .before .before .before .before .before .before .before .if2 in
     let is-stepped2 = c .before .before .before .before .before .is-stepped2 in
     let note3 = c .before .before .before .before .note3 in
-    scan-change-ended _ _ _ _ _ _ _ _ _ _ (section .inv) (scan-ahead _ _ _ _ _ _ _ _ _ _ (section .inv) (element-said .result .kind) (element-said .result .number) ((element-said .ensures (if2 .left)) .id) ((element-said .ensures (if2 .left)) .start) (pre .0 .sound .top) (λ x. shared-slice-known2 .given x .fits) ((element-said .ensures (if2 .left)) .head)) _ (said-end ((element-said .ensures (if2 .left)) .ends (pre .0 .shaped _ (ahead-number _ _ _ _ _ _ _ _ _ _ (section .inv) (scan-ahead _ _ _ _ _ _ _ _ _ _ (section .inv) (element-said .result .kind) (element-said .result .number) ((element-said .ensures (if2 .left)) .id) ((element-said .ensures (if2 .left)) .start) (pre .0 .sound .top) (λ x. shared-slice-known2 .given x .fits) ((element-said .ensures (if2 .left)) .head))))) (if2 .left)) _ _ (rw (is-stepped2 .ensures) at (note3 .ensures)) (eq-eqb _ _ (c .if4 .taken))
+    scan-change-ended _ _ _ _ _ _ _ _ _ _ (section .inv) (scan-ahead _ _ _ _ _ _ _ _ _ _ (section .inv) (head-said .result .kind) (head-said .result .number) ((head-said .ensures (λ z. if2 .left (quick-end .ensures .0 z))) .id) (head-said .result .start) (pre .0 .sound .top) (λ x. shared-slice-known2 .given x .fits) ((head-said .ensures (λ z. if2 .left (quick-end .ensures .0 z))) .head)) _ (said-end (quick-end .ensures .1 _ (pre .0 .shaped _ (ahead-number _ _ _ _ _ _ _ _ _ _ (section .inv) (scan-ahead _ _ _ _ _ _ _ _ _ _ (section .inv) (head-said .result .kind) (head-said .result .number) ((head-said .ensures (λ z. if2 .left (quick-end .ensures .0 z))) .id) (head-said .result .start) (pre .0 .sound .top) (λ x. shared-slice-known2 .given x .fits) ((head-said .ensures (λ z. if2 .left (quick-end .ensures .0 z))) .head))))) (if2 .left)) _ _ (rw (is-stepped2 .ensures) at (note3 .ensures)) (eq-eqb _ _ (c .if4 .taken))
 
 add-rows-2 : tie.Need-add-rows-2 Inv-loop μ-loop Inv-section μ-section
 add-rows-2 c =
-    let pre = c .before .before .before .before .before .before .before .before .before .before .before .before .before .before .before .before .before .before .pre in
-    let section = c .before .before .before .before .before .before .before .before .before .before .before .before .before .before .section in
+    let pre = c .before .before .before .before .before .before .before .before .before .before .before .before .before .before .before .before .before .pre in
+    let section = c .before .before .before .before .before .before .before .before .before .before .before .before .before .section in
     omega (arith, few-rows _ _ _ _ _ _ _ _ _ _ (section .inv), pre .0 .sized)
 
 section-less-5 : tie.Need-section-less-5 Inv-loop μ-loop Inv-section μ-section
 section-less-5 c =
-    let pre = c .before .before .before .before .before .before .before .before .before .before .before .before .before .before .before .before .before .before .pre in
-    let shared-slice-known2 = c .before .before .before .before .before .before .before .before .before .before .before .before .before .before .before .before .shared-slice-known2 in
-    let section = c .before .before .before .before .before .before .before .before .before .before .before .before .before .before .section in
-    let element-said = c .before .before .before .before .before .before .before .before .before .before .before .element-said in
-    let if2 = c .before .before .before .before .before .before .before .before .before .if2 in
-    omega (arith, data-end _ _ _ _ _ _ _ _ _ _ (section .inv) (scan-ahead _ _ _ _ _ _ _ _ _ _ (section .inv) (element-said .result .kind) (element-said .result .number) ((element-said .ensures (if2 .left)) .id) ((element-said .ensures (if2 .left)) .start) (pre .0 .sound .top) (λ x. shared-slice-known2 .given x .fits) ((element-said .ensures (if2 .left)) .head)) _ (said-end ((element-said .ensures (if2 .left)) .ends (pre .0 .shaped _ (ahead-number _ _ _ _ _ _ _ _ _ _ (section .inv) (scan-ahead _ _ _ _ _ _ _ _ _ _ (section .inv) (element-said .result .kind) (element-said .result .number) ((element-said .ensures (if2 .left)) .id) ((element-said .ensures (if2 .left)) .start) (pre .0 .sound .top) (λ x. shared-slice-known2 .given x .fits) ((element-said .ensures (if2 .left)) .head))))) (if2 .left)))
+    let pre = c .before .before .before .before .before .before .before .before .before .before .before .before .before .before .before .before .before .pre in
+    let shared-slice-known2 = c .before .before .before .before .before .before .before .before .before .before .before .before .before .before .before .shared-slice-known2 in
+    let section = c .before .before .before .before .before .before .before .before .before .before .before .before .before .section in
+    let head-said = c .before .before .before .before .before .before .before .before .before .before .head-said in
+    let quick-end = c .before .before .before .before .before .before .before .before .before .quick-end in
+    let if2 = c .before .before .before .before .before .before .before .before .if2 in
+    omega (arith, data-end _ _ _ _ _ _ _ _ _ _ (section .inv) (scan-ahead _ _ _ _ _ _ _ _ _ _ (section .inv) (head-said .result .kind) (head-said .result .number) ((head-said .ensures (λ z. if2 .left (quick-end .ensures .0 z))) .id) (head-said .result .start) (pre .0 .sound .top) (λ x. shared-slice-known2 .given x .fits) ((head-said .ensures (λ z. if2 .left (quick-end .ensures .0 z))) .head)) _ (said-end (quick-end .ensures .1 _ (pre .0 .shaped _ (ahead-number _ _ _ _ _ _ _ _ _ _ (section .inv) (scan-ahead _ _ _ _ _ _ _ _ _ _ (section .inv) (head-said .result .kind) (head-said .result .number) ((head-said .ensures (λ z. if2 .left (quick-end .ensures .0 z))) .id) (head-said .result .start) (pre .0 .sound .top) (λ x. shared-slice-known2 .given x .fits) ((head-said .ensures (λ z. if2 .left (quick-end .ensures .0 z))) .head))))) (if2 .left)))
 
 section-again-5 : tie.Need-section-again-5 Inv-loop μ-loop Inv-section μ-section
 section-again-5 c =
-    let pre = c .before .before .before .before .before .before .before .before .before .before .before .before .before .before .before .before .before .before .pre in
-    let shared-slice-known2 = c .before .before .before .before .before .before .before .before .before .before .before .before .before .before .before .before .shared-slice-known2 in
-    let section = c .before .before .before .before .before .before .before .before .before .before .before .before .before .before .section in
-    let element-said = c .before .before .before .before .before .before .before .before .before .before .before .element-said in
-    let if2 = c .before .before .before .before .before .before .before .before .before .if2 in
+    let pre = c .before .before .before .before .before .before .before .before .before .before .before .before .before .before .before .before .before .pre in
+    let shared-slice-known2 = c .before .before .before .before .before .before .before .before .before .before .before .before .before .before .before .shared-slice-known2 in
+    let section = c .before .before .before .before .before .before .before .before .before .before .before .before .before .section in
+    let head-said = c .before .before .before .before .before .before .before .before .before .before .head-said in
+    let quick-end = c .before .before .before .before .before .before .before .before .before .quick-end in
+    let if2 = c .before .before .before .before .before .before .before .before .if2 in
     let is-stepped2 = c .before .before .before .before .before .is-stepped2 in
     let note3 = c .before .before .before .before .note3 in
-    scan-row-ended _ _ _ _ _ _ _ _ _ _ (section .inv) (scan-ahead _ _ _ _ _ _ _ _ _ _ (section .inv) (element-said .result .kind) (element-said .result .number) ((element-said .ensures (if2 .left)) .id) ((element-said .ensures (if2 .left)) .start) (pre .0 .sound .top) (λ x. shared-slice-known2 .given x .fits) ((element-said .ensures (if2 .left)) .head)) _ (said-end ((element-said .ensures (if2 .left)) .ends (pre .0 .shaped _ (ahead-number _ _ _ _ _ _ _ _ _ _ (section .inv) (scan-ahead _ _ _ _ _ _ _ _ _ _ (section .inv) (element-said .result .kind) (element-said .result .number) ((element-said .ensures (if2 .left)) .id) ((element-said .ensures (if2 .left)) .start) (pre .0 .sound .top) (λ x. shared-slice-known2 .given x .fits) ((element-said .ensures (if2 .left)) .head))))) (if2 .left)) _ _ (rw (is-stepped2 .ensures) at (note3 .ensures)) (ne-eqb _ _ (c .if4 .left))
+    scan-row-ended _ _ _ _ _ _ _ _ _ _ (section .inv) (scan-ahead _ _ _ _ _ _ _ _ _ _ (section .inv) (head-said .result .kind) (head-said .result .number) ((head-said .ensures (λ z. if2 .left (quick-end .ensures .0 z))) .id) (head-said .result .start) (pre .0 .sound .top) (λ x. shared-slice-known2 .given x .fits) ((head-said .ensures (λ z. if2 .left (quick-end .ensures .0 z))) .head)) _ (said-end (quick-end .ensures .1 _ (pre .0 .shaped _ (ahead-number _ _ _ _ _ _ _ _ _ _ (section .inv) (scan-ahead _ _ _ _ _ _ _ _ _ _ (section .inv) (head-said .result .kind) (head-said .result .number) ((head-said .ensures (λ z. if2 .left (quick-end .ensures .0 z))) .id) (head-said .result .start) (pre .0 .sound .top) (λ x. shared-slice-known2 .given x .fits) ((head-said .ensures (λ z. if2 .left (quick-end .ensures .0 z))) .head))))) (if2 .left)) _ _ (rw (is-stepped2 .ensures) at (note3 .ensures)) (ne-eqb _ _ (c .if4 .left))
 
 add-rows-3 : tie.Need-add-rows-3 Inv-loop μ-loop Inv-section μ-section
 add-rows-3 c =
@@ -305,10 +311,10 @@ pub scan-spec : {M : Type 1} → statement M
 scan-spec =
     tie.close
     (tie.spec
-    Inv-loop μ-loop Inv-section μ-section section-holds run-requires element-said-requires head-at-requires (λ c. search needs)
-    (λ c. search needs) (λ c. search needs) note-requires add-at section-less section-again (λ c. search needs) turns-of-requires loop-holds
-    turn-requires (λ c. search needs) (λ c. search needs) (λ c. search needs) loop-less loop-again sub-note shared-slice-read-is-stepped
-    (λ c κs. search needs) note-requires-2 section-less-2 section-again-2 add-rows section-less-3 section-again-3 sub-note-2
-    shared-slice-read-is-stepped-2 (λ c κs. search needs) note-requires-3 section-less-4 section-again-4 add-rows-2 section-less-5
+    Inv-loop μ-loop Inv-section μ-section section-holds run-requires head-said-requires (λ c κs. search needs) head-at-requires
+    (λ c. search needs) (λ c. search needs) (λ c. search needs) note-requires add-at section-less section-again (λ c. search needs)
+    turns-of-requires loop-holds turn-requires (λ c. search needs) (λ c. search needs) (λ c. search needs) loop-less loop-again sub-note
+    shared-slice-read-is-stepped (λ c κs. search needs) note-requires-2 section-less-2 section-again-2 add-rows section-less-3 section-again-3
+    sub-note-2 shared-slice-read-is-stepped-2 (λ c κs. search needs) note-requires-3 section-less-4 section-again-4 add-rows-2 section-less-5
     section-again-5 add-rows-3 mul-at add-at-2 section-less-6 section-again-6 same-length returns same-length-2 returns-2 same-length-3
     returns-3)
