@@ -24,7 +24,7 @@ use wire::error::ErrorKind;
 use wire::error::Input;
 
 // So many numbers hold the shapes of a few schemas, and to clear more takes time.
-pub(crate) const FEW_NUMBERS: usize = 192;
+pub(crate) const FEW_NUMBERS: usize = 256;
 
 // So many hold those of any file.
 pub(crate) const MOST_NUMBERS: usize = 3_072;
