@@ -19,8 +19,8 @@
  *
  * Stack: measured on x86-64 by c/stack.c and rounded up; arguments are included, a KB has 1,024 bytes. Where the C library's
  * memcpy and memset are bound only when they are first called, that call takes some 3 KB more.
- *     adtg_list_section: at most 92 KB
- *     adtg_check_section: at most 27 KB
+ *     adtg_list_section: at most 96 KB
+ *     adtg_check_section: at most 31 KB
  *     every other call: at most 11 KB
  */
 #ifndef ADTG_H

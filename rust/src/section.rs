@@ -39,7 +39,7 @@ pub struct Rows<'a> {
     numbers: &'a [u32],
 }
 
-/// Checks a whole row section: how many rows it has. The call takes up to 27 KB of stack.
+/// Checks a whole row section: how many rows it has. The call takes up to 31 KB of stack.
 pub fn check_section(file: &[u8], section: &[u8]) -> Result<usize, Error> {
     raw::check_section(file, section).result()
 }
@@ -48,7 +48,7 @@ pub fn check_section(file: &[u8], section: &[u8]) -> Result<usize, Error> {
 /// [`ROW_NUMBERS`] numbers. What lies behind the last row stays as it was; an error leaves the
 /// whole table. What [`check_section`] refuses, it refuses with the same error. Last comes the
 /// room: where it is too small the error is of the kind `Capacity`, and its offset says how many
-/// rows there are. The call takes up to 92 KB of stack.
+/// rows there are. The call takes up to 96 KB of stack.
 pub fn list_section<'a>(
     file: &[u8],
     section: &[u8],
