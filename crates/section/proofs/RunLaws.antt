@@ -55,6 +55,16 @@ run-next {s} {start} {step} {n} {at} r e l t one =
     by i (inl q) = rw q (ap (λ (k : ℕ). getD s k 0) (sym e) ∙ t)
     by i (inr q) = r .parents i q
 
+-- two more
+pub run-two :
+    {s : Bytes} {start step n at : ℕ} → Run s start step n → at ≡ start + n * step → at + 2 * step ≤ length s → getD s at 0 ≡ 0x07 →
+    getD s (at + step) 0 ≡ 0x07 → 1 ≤ step → Run s start step (n + 2) × (at + 2 * step ≡ start + (n + 2) * step)
+run-two {s} {start} {step} {n} {at} r e l t u one =
+    let x : at + step ≡ start + (n + 1) * step = omega (arith, e, run-more start n step) in
+    let y : n + 1 + 1 ≡ n + 2 = omega arith in
+    let z : at + 2 * step ≡ start + (n + 2) * step = omega (arith, e, run-more start n step, run-more start (suc n) step) in
+    (rw y at (run-next (run-next r e (omega (arith, l)) t one) x (omega (arith, l)) u one), z)
+
 -- no more rows than bytes
 few-steps : (n step : ℕ) → 1 ≤ step → n ≤ n * step
 few-steps zero step h = omega arith

@@ -6,7 +6,7 @@ ghost use Rattle.section.specs.Runs.{Run, laidRun};
 use crate::heads::PARENT;
 use crate::table::put_row;
 
-// How many parents follow each other from `start` on, each by a step from the one before. Without a step it says none.
+// How many parents follow each other from `start` on, each by a step from the one before. Without a step it says none. Two are passed at a turn.
 pub(crate) fn run(section: &[u8], start: usize, step: usize) -> usize
     requires { ⌜ (start ≤ length (now section)) × (length (now section) ≤ 16777216) × (step ≤ 65536) ⌝ }
     ensures { λ r. ⌜ Run (now (section .entry)) start step r ⌝ }
@@ -16,12 +16,20 @@ pub(crate) fn run(section: &[u8], start: usize, step: usize) -> usize
     }
     let mut n = 0;
     let mut at = start;
-    while at + step <= section.len() {
+    while at + 2 * step <= section.len() {
         if section[at] != PARENT {
             return n;
         }
-        at += step;
-        n += 1;
+        if section[at + step] != PARENT {
+            return n + 1;
+        }
+        at += 2 * step;
+        n += 2;
+    }
+    if at + step <= section.len() {
+        if section[at] == PARENT {
+            return n + 1;
+        }
     }
     n
 }
