@@ -83,7 +83,7 @@ fn element_end(
 
 // The number of the schema of a row of `kind` with a child id.
 fn number_for(slots: &[u64; 512], schemas: usize, last: usize, kind: usize, id: usize) -> usize
-    requires { ⌜ Sound (now slots) schemas ⌝ }
+    requires { ⌜ Sound (now slots) schemas × (last < schemas) ⌝ }
     ensures { λ r. ⌜ r ≡ numberFor (schemasIn 0 schemas (now (slots .entry))) kind id ⌝ }
 {
     if kind == 1 {

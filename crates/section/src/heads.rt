@@ -9,7 +9,7 @@ ghost use Rattle.shapes.specs.Shapes.{Sound};
 ghost use Rattle.section.specs.Heads.{headAt, headBy, beforeIn, pairedId, toldHead};
 ghost use Rattle.grammar.specs.Grammar.{other};
 ghost use Rattle.grammar.specs.Reader.{childToken, changeToken, deleteToken, doneToken};
-use crate::children::find_child;
+use schema::children::child_number;
 use schema::children::id_in;
 use shapes::shapes::SCHEMAS;
 use wire::error::Error;
@@ -43,14 +43,14 @@ pub enum Head {
 }
 
 // An 87 element's head.
-fn child_head(slots: &[u64; 512], schemas: usize, section: &[u8], at: usize, last: usize) -> Head
+fn child_head(slots: &[u64; 512], schemas: usize, section: &[u8], at: usize) -> Head
     requires { ⌜ Sound (now slots) schemas × (at < length (now section)) ⌝ }
     ensures { λ r. ⌜ toldHead r ≡ headBy (schemasIn 0 schemas (now (slots .entry))) (now (section .entry)) (beforeIn (now (slots .entry)) 0) at childToken ⌝ }
 {
     match u32_at(section, at + 1) {
         IntRead::Refused(e) => Head::Refused(e),
         IntRead::Int(id) => {
-            let number = find_child(slots, schemas, last, id);
+            let number = child_number(slots, schemas, id as u64);
             if number == 0 {
                 return Head::Refused(Error {
                     kind: ErrorKind::UnknownId,
@@ -132,15 +132,13 @@ fn done_head(section: &[u8], at: usize) -> Head
     })
 }
 
-// The head of the element at `at`, where `child` is the schema number of an 87 element directly before it, else 0, and `last` that of the last
-// child, where there was one.
+// The head of the element at `at`, where `child` is the schema number of an 87 element directly before it, else 0.
 pub(crate) fn head_at(
     slots: &[u64; 512],
     schemas: usize,
     section: &[u8],
     at: usize,
     child: usize,
-    last: usize,
 ) -> Head
     requires { ⌜ Sound (now slots) schemas × (child < schemas) × (length (now section) ≤ 16777216) ⌝ }
     ensures { λ r. ⌜ toldHead r ≡ headAt (schemasIn 0 schemas (now (slots .entry))) (now (section .entry)) (beforeIn (now (slots .entry)) child) at ⌝ }
@@ -162,7 +160,7 @@ pub(crate) fn head_at(
         };
     }
     if token == CHILD {
-        return child_head(slots, schemas, section, at, last);
+        return child_head(slots, schemas, section, at);
     }
     if token == CHANGE {
         return change_head(slots, schemas, section, at, child);

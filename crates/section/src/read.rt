@@ -45,7 +45,7 @@ pub(crate) fn scan(
             let said = head_said(slots, schemas, section, at, child, last);
             let next = quick_end(shapes, said.number, said.kind, section, said.start);
             if next == 0 {
-                match head_at(slots, schemas, section, at, child, last) {
+                match head_at(slots, schemas, section, at, child) {
                     Head::Refused(e) => {
                         break 'section RowsRead::Refused(e);
                     }

@@ -30,7 +30,7 @@ pub(crate) fn head_said(
     child: usize,
     last: usize,
 ) -> Said
-    requires { ⌜ Sound (now slots) schemas × (child < schemas) × (length (now section) ≤ 16777216) ⌝ }
+    requires { ⌜ Sound (now slots) schemas × (child < schemas) × (length (now section) ≤ 16777216) × (last < schemas) ⌝ }
     ensures { λ r. ⌜ SaidAt (now (slots .entry)) schemas (now (section .entry)) (beforeIn (now (slots .entry)) child) at r ⌝ }
 {
     if lacks(section.len(), at, 5) {

@@ -10,15 +10,14 @@ use Rattle.section.proofs.children.find_child.Tie as tie
 
 returns : tie.Need-returns
 returns c =
-    let args = c .before .before .before .before .before .args in
-    let pre = c .before .before .before .before .before .pre in
-    let if2 = c .before .before .before .if2 in
-    sym (ap (λ (n : ℕ). or0 (childNumber (schemasIn 0 (args .schemas) (args .slots .now)) n)) (sym (sym (c .before .id-in .ensures) ∙ c .if3 .taken)) ∙ ap or0 (pre .once (args .last) (search needs) (if2 .taken)))
+    let args = c .before .before .before .before .args in
+    let pre = c .before .before .before .before .pre in
+    sym (ap (λ (n : ℕ). or0 (childNumber (schemasIn 0 (args .schemas) (args .slots .now)) n)) (sym (sym (c .before .id-in .ensures) ∙ c .if2 .taken)) ∙ ap or0 (pre .0 .once (args .last) (search needs) (pre .1)))
 
 returns-2 : tie.Need-returns-2
 returns-2 c =
     let pre = c .before .before .pre in
-    c .child-number .ensures (pre .top) (pre .all)
+    c .child-number .ensures (pre .0 .top) (pre .0 .all)
 
 pub find-child-spec : {M : Type 1} → statement M
 find-child-spec =

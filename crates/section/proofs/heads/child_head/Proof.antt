@@ -2,10 +2,9 @@
 -- Assumes nothing.
 use Prim.Native.Nat.{ℕ, _+_}
 use mathlib.Core.Path.{sym, ap, _∙_}
-use mathlib.Core.List.{List}
-use Rattle.wire.specs.Read.{Bytes, ok}
+use Rattle.wire.specs.Read.{ok}
 use Rattle.wire.specs.Integers.{toldInt}
-use Rattle.tree.specs.Schemas.{Schema, childNumber, or0}
+use Rattle.tree.specs.Schemas.{childNumber, or0}
 use Rattle.tree.specs.Table.{schemasIn}
 use Rattle.grammar.specs.Grammar.{other}
 use Rattle.grammar.specs.Reader.{idAt}
@@ -18,31 +17,25 @@ use Rattle.section.proofs.heads.child_head.Tie as tie
 returns : tie.Need-returns
 returns c =
     let args = c .before .before .before .before .before .before .before .args in
+    let pre = c .before .before .before .before .before .before .before .pre in
     let u32-at = c .before .before .before .before .before .u32-at in
     let id = c .before .before .before .id in
-    let ss : List Schema = schemasIn 0 (args .schemas) (args .slots .now) in
-    let s : Bytes = args .section .now in
-    let x = id-read s (args .at) (sym (u32-at .ensures) ∙ ap toldInt (id .given .1)) in
-    sym (child-unknown ss s other (args .at) (x .0) (number-none ss (idAt s (args .at)) (ap (λ (n : ℕ). or0 (childNumber ss n)) (x .1) ∙ sym (c .before .find-child .ensures) ∙ c .if1 .taken)))
+    sym (child-unknown (schemasIn 0 (args .schemas) (args .slots .now)) (args .section .now) other (args .at) ((id-read (args .section .now) (args .at) (sym (u32-at .ensures) ∙ ap toldInt (id .given .1))) .0) (number-none (schemasIn 0 (args .schemas) (args .slots .now)) (idAt (args .section .now) (args .at)) (ap (λ (n : ℕ). or0 (childNumber (schemasIn 0 (args .schemas) (args .slots .now)) n)) ((id-read (args .section .now) (args .at) (sym (u32-at .ensures) ∙ ap toldInt (id .given .1))) .1) ∙ sym (c .before .child-number .ensures (pre .0 .top) (pre .0 .all)) ∙ c .if1 .taken)))
 
 returns-2 : tie.Need-returns-2
 returns-2 c =
     let args = c .before .before .before .before .before .args in
     let u32-at = c .before .before .before .u32-at in
-    let ss : List Schema = schemasIn 0 (args .schemas) (args .slots .now) in
-    let s : Bytes = args .section .now in
-    sym (child-short ss s other (args .at) (id-short s (args .at) (sym (u32-at .ensures) ∙ ap toldInt (c .before .e .given .1))))
+    sym (child-short (schemasIn 0 (args .schemas) (args .slots .now)) (args .section .now) other (args .at) (id-short (args .section .now) (args .at) (sym (u32-at .ensures) ∙ ap toldInt (c .before .e .given .1))))
 
 returns-3 : tie.Need-returns-3
 returns-3 c =
     let args = c .before .before .before .before .before .before .before .args in
+    let pre = c .before .before .before .before .before .before .before .pre in
     let u32-at = c .before .before .before .before .before .u32-at in
     let id = c .before .before .before .id in
-    let find-child = c .before .find-child in
-    let ss : List Schema = schemasIn 0 (args .schemas) (args .slots .now) in
-    let s : Bytes = args .section .now in
-    let x = id-read s (args .at) (sym (u32-at .ensures) ∙ ap toldInt (id .given .1)) in
-    sym (child-known ss s other (args .at) (x .0) (ap (childNumber ss) (x .1) ∙ number-some ss _ (find-child .ensures) (c .if1 .left)) ∙ ap (λ (n : ℕ). ok (dataHead 2 (find-child .result) n (args .at + 5))) (x .1))
+    let child-number = c .before .child-number in
+    sym (child-known (schemasIn 0 (args .schemas) (args .slots .now)) (args .section .now) other (args .at) ((id-read (args .section .now) (args .at) (sym (u32-at .ensures) ∙ ap toldInt (id .given .1))) .0) (ap (childNumber (schemasIn 0 (args .schemas) (args .slots .now))) ((id-read (args .section .now) (args .at) (sym (u32-at .ensures) ∙ ap toldInt (id .given .1))) .1) ∙ number-some (schemasIn 0 (args .schemas) (args .slots .now)) _ (child-number .ensures (pre .0 .top) (pre .0 .all)) (c .if1 .left)) ∙ ap (λ (n : ℕ). ok (dataHead 2 (child-number .result) n (args .at + 5))) ((id-read (args .section .now) (args .at) (sym (u32-at .ensures) ∙ ap toldInt (id .given .1))) .1))
 
 pub child-head-spec : {M : Type 1} → statement M
 child-head-spec =
