@@ -134,10 +134,11 @@ loop-again c =
     let noted-at = c .before .before .before .before .before .before .before .before .before .noted-at in
     let put-row = c .before .before .before .before .before .before .put-row in
     let if3 = c .before .before .if3 in
-    let number-for = c .before .number-for in
-    ((λ a. rw (put-row .ensures, put-run .ensures .1, no-run _ _ _ _ _ (if2 .taken)) (fill-next-asked _ (schemasIn 0 (args .schemas) (args .slots .now)) _ _ a (top (c .before .before .before .before .before .before .before .before .before .before .before .before .before .before .before .before .before .before .before .before .before .before .before .before .before)) (λ x. shared-slice-known2 .given x .fits) _ _ _ _ _ _ (loop .inv .0 a) (if1 .taken) _ (entry-at .ensures) _ (rw (is-stepped .ensures) at (noted-at .ensures)) (if3 .taken)
-    (asked-end (pre .0) (number-for .result) (entry-at .result .kind) (entry-at .result .id) (loop .at) (number-for .ensures) (c .element-end .ensures) (entry-asked _ (schemasIn 0 (args .schemas) (args .slots .now)) _ _ a (top (c .before .before .before .before .before .before .before .before .before .before .before .before .before .before .before .before .before .before .before .before .before .before .before .before .before)) (λ x. shared-slice-known2 .given x .fits) _ _ _ _ _ _ (loop .inv .0 a) (if1 .taken) _ (entry-at .ensures))))),
-    asked-low (pre .0) (number-for .result) (entry-at .result .kind) (entry-at .result .id) (number-for .ensures))
+    let number-for = c .before .number-for in (
+      (λ a. rw (put-row .ensures, put-run .ensures .1, no-run _ _ _ _ _ (if2 .taken)) (fill-next-asked _ (schemasIn 0 (args .schemas) (args .slots .now)) _ _ a (top (c .before .before .before .before .before .before .before .before .before .before .before .before .before .before .before .before .before .before .before .before .before .before .before .before .before)) (λ x. shared-slice-known2 .given x .fits) _ _ _ _ _ _ (loop .inv .0 a) (if1 .taken) _ (entry-at .ensures) _ (rw (is-stepped .ensures) at (noted-at .ensures)) (if3 .taken)
+          (asked-end (pre .0) (number-for .result) (entry-at .result .kind) (entry-at .result .id) (loop .at) (number-for .ensures) (c .element-end .ensures) (entry-asked _ (schemasIn 0 (args .schemas) (args .slots .now)) _ _ a (top (c .before .before .before .before .before .before .before .before .before .before .before .before .before .before .before .before .before .before .before .before .before .before .before .before .before)) (λ x. shared-slice-known2 .given x .fits) _ _ _ _ _ _ (loop .inv .0 a) (if1 .taken) _ (entry-at .ensures))))),
+      asked-low (pre .0) (number-for .result) (entry-at .result .kind) (entry-at .result .id) (number-for .ensures),
+    )
 
 add-at : tie.Need-add-at Inv-loop μ-loop
 add-at c =

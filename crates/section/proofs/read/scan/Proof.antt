@@ -302,9 +302,11 @@ returns-3 c =
     let kind = c .before .before .before .before .before .before .before .before .kind in
     let loop = c .before .before .before .before .before .loop in
     let loop-test = c .before .before .before .before .loop-test in
-    let turn = c .before .before .before .turn in
-    (scanned-refused _ _ _ _ _ (scan-data-refused _ _ _ _ _ _ _ _ _ _ (section .inv .0) (by-head (c .before .before .before .before .before .before .before .before))
-    (turn-refused (eqb (kind .given .0 .0) 3) (slotColumns (args .slots .now) (kind .given .0 .1 .0)) (args .section .now) (kind .given .0 .1 .1 .1 .0) (loop-test .taken) (loop .inv) (sym (turn .ensures) ∙ ap toldInt (c .before .fault .given .1)))), section .inv .0 .long)
+    let turn = c .before .before .before .turn in (
+      scanned-refused _ _ _ _ _ (scan-data-refused _ _ _ _ _ _ _ _ _ _ (section .inv .0) (by-head (c .before .before .before .before .before .before .before .before))
+          (turn-refused (eqb (kind .given .0 .0) 3) (slotColumns (args .slots .now) (kind .given .0 .1 .0)) (args .section .now) (kind .given .0 .1 .1 .1 .0) (loop-test .taken) (loop .inv) (sym (turn .ensures) ∙ ap toldInt (c .before .fault .given .1)))),
+      section .inv .0 .long,
+    )
 
 pub scan-spec : {M : Type 1} → statement M
 scan-spec =
