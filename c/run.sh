@@ -18,8 +18,10 @@ wrong() {
 
 build example
 build capture
+build arrival
 "$folder/example" >"$folder/printed"
 "$folder/capture" | tee "$folder/fields" >>"$folder/printed"
+"$folder/arrival" >>"$folder/printed"
 diff -u expected "$folder/printed"
 while IFS= read -r line; do
     grep -qxF "    $line" ../README.md || wrong "the README lacks what capture.c prints: $line"

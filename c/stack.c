@@ -44,12 +44,15 @@ static struct input file, data;
 static size_t number, column, owner, numbers_length, rows_length;
 static uint32_t numbers[ROOM], rows[ROOM], entries[ENTRIES];
 static adtg_plan plan;
+static size_t begun_length;
+static adtg_reader begun;   /* a reader that was fed so many bytes of the data */
 
 /* What they write. */
 static uint64_t out[16];
 static uint8_t output[ROOM];
 static uint32_t table[ROOM];
 static adtg_plan_answer made;
+static adtg_reader reader;
 
 static void fail(const char *why, const char *what)
 {
@@ -92,6 +95,24 @@ static uint32_t check_section(void)
 static uint32_t list_section(void)
 {
     return adtg_list_section(file.bytes, file.length, data.bytes, data.length, table, ROOM, out);
+}
+
+static uint32_t first_reader(void)
+{
+    reader = adtg_first_reader();
+    return 0;
+}
+
+static uint32_t feed(void)
+{
+    reader = begun;
+    return adtg_feed(file.bytes, file.length, &reader, data.bytes + begun_length, data.length - begun_length).code;
+}
+
+static uint32_t close_reader(void)
+{
+    reader = begun;
+    return adtg_close(file.bytes, file.length, &reader).code;
 }
 
 static uint32_t look_up(void)
@@ -171,6 +192,9 @@ static struct call {
     {"adtg_schema_numbers", schema_numbers, 0, 0},
     {"adtg_check_section", check_section, 0, 0},
     {"adtg_list_section", list_section, 0, 0},
+    {"adtg_first_reader", first_reader, 0, 0},
+    {"adtg_feed", feed, 0, 0},
+    {"adtg_close", close_reader, 0, 0},
     {"adtg_look_up", look_up, 0, 0},
     {"adtg_field_count", field_count, 0, 0},
     {"adtg_row_end", row_end, 0, 0},
@@ -372,6 +396,10 @@ static void set(struct input of_file, struct input of_data, size_t of_number, si
     /* Where the data are no section they are one row, as far as a table says. */
     memcpy(rows, (uint32_t[]){ADTG_PARENT, 0, 0, 0}, 4 * sizeof rows[0]);
     rows_length = adtg_list_section(file.bytes, file.length, data.bytes, data.length, rows, ROOM, out) == 0 ? 4 * out[0] : 4;
+    /* Nothing of the data, one third, two, or all, as the column is one or another. */
+    begun_length = data.length * (column % 4) / 3;
+    begun = adtg_first_reader();
+    (void)adtg_feed(file.bytes, file.length, &begun, data.bytes, begun_length);
     for (size_t i = 0; i < WIDE; i++) {
         entries[3 * i] = i + 1 < WIDE ? ADTG_ENTRY_VALUE : column % 3;
         entries[3 * i + 1] = 0;

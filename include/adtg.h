@@ -10,8 +10,8 @@
  * A writer writes at the start of its output or table, a row writer from a place in its output on. It leaves all that lies
  * outside the piece; an error leaves all of it.
  *
- * Memory: what a call may write (an output, a table, spans, `out`, each in its whole length) must not overlap anything else
- * that the call is given, neither an input nor other memory to write. What is promised stands on this. Inputs may overlap one
+ * Memory: what a call may write (an output, a table, spans, a reader, `out`, each in its whole length) must not overlap anything
+ * else that the call is given, neither an input nor other memory to write. What is promised stands on this. Inputs may overlap one
  * another.
  *
  * Threads: a call has no state and keeps no pointer. Any number of threads may call at once, each with memory of its own to
@@ -21,6 +21,7 @@
  * memcpy and memset are bound only when they are first called, that call takes some 3 KB more.
  *     adtg_list_section: at most 96 KB
  *     adtg_check_section: at most 31 KB
+ *     adtg_feed: at most 32 KB
  *     every other call: at most 11 KB
  */
 #ifndef ADTG_H
@@ -52,8 +53,8 @@ enum adtg_error {
     ADTG_TRAILING = 15,      /* bytes after the end; offset: the first of them */
     ADTG_CAPACITY = 16,      /* the output or table is too small; offset: the bytes, numbers or rows that are needed */
     ADTG_PLAN_MISMATCH = 17, /* the plan is not that of the schema; offset: 0 */
-    ADTG_MISSING = 18,       /* no such schema, column, child id, place or entry; offset: 0 */
-    ADTG_TOO_LARGE = 19,     /* an input has more than 16,777,216 bytes; offset: 0 */
+    ADTG_MISSING = 18,       /* no such schema, column, child id, place, entry or reader; offset: 0 */
+    ADTG_TOO_LARGE = 19,     /* an input has more than 16,777,216 bytes, or all fragments together; offset: 0 */
     ADTG_ENTRY = 20          /* an entry can't stand in its column; offset: the column */
 };
 
@@ -79,7 +80,8 @@ enum adtg_input {
     ADTG_SECOND_STRING = 17,
     ADTG_THIRD_STRING = 18,
     ADTG_ASYNC = 19,
-    ADTG_CHILD_ID = 20
+    ADTG_CHILD_ID = 20,
+    ADTG_READER = 21         /* the record of a reader */
 };
 
 /* What a look-up answers. */
@@ -183,6 +185,58 @@ enum adtg_row {
 uint32_t adtg_list_section(const uint8_t *file, size_t file_length,
                            const uint8_t *section, size_t section_length,
                            uint32_t *table, size_t table_length, uint64_t out[16]);
+
+/* A reader of a row section that arrives in fragments: all that is remembered between calls. It belongs to the caller, has 120
+ * bytes and does not grow; fragments need not be kept. A reader of zeros is the first one. It may be copied, and each copy then
+ * goes on by itself. Only the calls need to know what its numbers are. Numbers that no call makes are allowed too: a call answers
+ * error 18, which names the reader, or something else. */
+typedef struct adtg_reader {
+    uint32_t stage;          /* 0 between elements, 1 id of an 87, 2 id of an 8A, 3 id of an 8C, 4 maps, 5 length prefix,
+                              * 6 bytes of a field, 7 complete, 8 refused, 9 closed and complete */
+    uint32_t code;           /* number of an error that stands, else 0 */
+    uint64_t kind;           /* whose data are read: 1 of a 07, 2 of an 87, 3 of an 8A */
+    uint64_t id;             /* child id of these, or of an 87 directly before */
+    uint64_t paired;         /* 1 where an 87 stands directly before, else 0 */
+    uint64_t rows;           /* whole 07 and 87 elements so far */
+    uint64_t at;             /* where a piece begins that is not whole yet, else the bytes so far; offset of an error that stands */
+    uint64_t more;           /* bytes that the piece or the field lacks, less one */
+    uint64_t column;         /* column of a length prefix; in a field the next column */
+    uint64_t input;          /* input of an error that stands, else 0 */
+    uint64_t filled;         /* how many bytes are held */
+    uint64_t mapped;         /* how many bytes the maps have */
+    uint8_t held[16];        /* bytes of a piece that is not whole yet */
+    uint8_t map[16];         /* maps of the row in progress */
+} adtg_reader;
+
+/* How far a section has come. */
+enum adtg_progress {
+    ADTG_GOING = 1,          /* more bytes are needed */
+    ADTG_COMPLETE = 2        /* the section ends in its done token */
+};
+
+/* What a reader answers. */
+typedef struct adtg_fed {
+    uint32_t code;           /* 0, or the number of the error */
+    uint32_t progress;       /* going or complete; 0 beside an error */
+    uint64_t first;          /* whole 07 and 87 elements so far, or rows; offset of an error */
+    uint64_t second;         /* input of an error, else 0 */
+} adtg_fed;
+
+/* The first reader, which has seen no byte. */
+adtg_reader adtg_first_reader(void);
+
+/* Reads the next fragment of a section, which may be empty. The same schema file goes with every call.
+ * Answers what `adtg_check_section` would for all bytes so far: the error that they have, or `complete` and the rows; but in place
+ * of error 1 of the section `going`, and how many 07 and 87 elements are whole. An 87 counts once its own data are whole. Behind the
+ * done token any byte is error 15 at its place. The offsets count from the first fragment's first byte.
+ * An error stands: all later calls answer it too, whatever they are given. Error 19 names the section once all fragments together
+ * have more than 16,777,216 bytes, unless the first 16,777,216 have another error, or the schema file has. */
+adtg_fed adtg_feed(const uint8_t *file, size_t file_length, adtg_reader *reader,
+                   const uint8_t *fragment, size_t fragment_length);
+
+/* Says that no more bytes come. Answers what `adtg_check_section` answers for all of them: `complete` and the rows, or the error,
+ * which may be 1. The answer stands: all later calls answer it too. */
+adtg_fed adtg_close(const uint8_t *file, size_t file_length, adtg_reader *reader);
 
 /* The calls below take a schema file and the number of the schema that says the columns of the row. They check all sizes,
  * then the file, then the schema number, then the rest.

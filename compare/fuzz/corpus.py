@@ -36,6 +36,9 @@ def parts(call, words):
         return {"file": run(words[0]), "data": run(words[1])}
     if call == "list_section":
         return {"file": run(words[0]), "data": run(words[1]), "space": int(words[2])}
+    if call == "feed":
+        fragments = [run(part) for part in words[1].split(",") if part != "close"]
+        return {"file": run(words[0]), "data": b"".join(fragments), "column": len(fragments)}
     start = {"file": run(words[0]), "number": int(words[1])}
     if call == "find_column":
         owner = 0 if words[4] == "parents" else int(words[4])

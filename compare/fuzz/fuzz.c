@@ -1,4 +1,4 @@
-/* A fuzz target over the C calls of the archive: any bytes, any numbers, any plan.
+/* A fuzz target over the C calls of the archive: any bytes, any numbers, any plan, any reader.
  *
  * An input is eight bytes of numbers, a schema file and data: schema number and side of the guard page, column, offset (two
  * bytes), space (two bytes), length of the file (two bytes), then the file and the data. Every call is made with them. What is
@@ -23,21 +23,22 @@
 #define ROW_NUMBERS 4u        /* numbers of a row in a table */
 #define ENTRY_NUMBERS 3u      /* numbers of an entry for a row writer */
 #define SPAN_NUMBERS 2u       /* numbers of a row in the spans of a batch */
+#define FRAGMENTS 32u         /* of a section at most */
 #define LAST_ERROR 20u
-#define LAST_INPUT 20u
+#define LAST_INPUT 21u
 
 enum token { PARENT = 0x07, CHILD = 0x87, CHANGE = 0x8A, DELETE = 0x8C, END = 0x0F };
 enum row_kind { PARENT_ROW = 1, CHILD_ROW = 2, CHANGED_ROW = 3, DELETED_ROW = 4 };
 
 /* Places for what is lent. */
-enum slot { FILE_SLOT, DATA_SLOT, FIRST_SLOT, SECOND_SLOT, TABLE_SLOT, OUTPUT_SLOT, SPANS_SLOT, SLOTS };
+enum slot { FILE_SLOT, DATA_SLOT, FIRST_SLOT, SECOND_SLOT, TABLE_SLOT, OUTPUT_SLOT, SPANS_SLOT, READER_SLOT, SLOTS };
 
 /* The calls, as the counters know them. */
 enum call {
     READ_HEADER, WRITE_HEADER, WRITE_HEADER_SHORT, READ_OPTIONS, WRITE_OPTIONS, READ_SCHEMA, SCHEMA_COLUMNS, SCHEMA_COLUMN,
     SCHEMA_OF_CHILD, WRITE_SCHEMA, SCHEMA_NUMBERS, LOOK_UP, FIELD_COUNT, ROW_END, LOOK_UPDATE, UPDATE_END, CURRENT,
     WRITE_ORIGINAL, WRITE_UPDATE, CHECK_SECTION, LIST_SECTION, MAKE_PLAN, CHECK_PLAN, FIXED_PLACE, FIND, OPEN_ROW,
-    FORGED_PLACE, FORGED_FIND, FORGED_OPEN, FIND_COLUMN, FORGED_FIND_COLUMN
+    FORGED_PLACE, FORGED_FIND, FORGED_OPEN, FIND_COLUMN, FORGED_FIND_COLUMN, FEED, CLOSE, FORGED_FEED, FORGED_CLOSE
 };
 
 /* What the answers were, for the fuzzer. */
@@ -475,6 +476,165 @@ static void section(const struct input *in)
     }
 }
 
+/* A reader, directly at a guard page. */
+static adtg_reader *lend_reader(enum slot slot, const adtg_reader *from, int guard_in_front)
+{
+    struct bytes lent = lend(slot, (const uint8_t *)from, sizeof *from, guard_in_front);
+    return (adtg_reader *)(uintptr_t)lent.at;
+}
+
+/* The form of what a reader answers. */
+static void check_fed(enum call call, adtg_fed fed)
+{
+    need(fed.code <= LAST_ERROR, "an unknown error");
+    if (fed.code == 0) {
+        need(fed.progress == ADTG_GOING || fed.progress == ADTG_COMPLETE, "an unknown progress");
+        need(fed.second == 0, "a number beside the progress");
+    } else {
+        need(fed.progress == 0, "a progress beside an error");
+        need(fed.second <= LAST_INPUT, "an unknown input");
+    }
+    need(fed.progress != ADTG_GOING || (call != CLOSE && call != FORGED_CLOSE), "a close that goes on");
+    count(call, 3 * fed.code + fed.progress, fed.first, fed.second);
+}
+
+static int same_fed(adtg_fed one, adtg_fed other)
+{
+    return one.code == other.code && one.progress == other.progress && one.first == other.first && one.second == other.second;
+}
+
+/* A section is gone over from element to element, as far as they are whole. */
+struct way {
+    size_t at;
+    uint64_t rows;
+};
+
+/* The number of the schema of the child element at `at`; 0 where it is not whole or there is none. */
+static size_t child_at(const struct input *in, size_t at, size_t length)
+{
+    uint64_t out[16];
+    int known = length - at >= 5 &&
+                adtg_schema_of_child(in->file.at, in->file.length, four_bytes(in->data.at + at + 1), out) == 0;
+    return known ? out[0] : 0;
+}
+
+/* Goes on over whole elements within so many bytes, and counts the rows that start with one. */
+static void go_on(const struct input *in, struct way *way, size_t length)
+{
+    const uint8_t *file = in->file.at, *data = in->data.at;
+    size_t file_length = in->file.length;
+    uint64_t out[16];
+    while (way->at < length) {
+        uint8_t token = data[way->at];
+        size_t number = token == PARENT ? 0 : child_at(in, way->at, length), start = way->at + (token == PARENT ? 1 : 5);
+        if (token == DELETE && start <= length) {
+            way->at = start;
+            continue;
+        }
+        if (token != PARENT && (number == 0 || (token != CHILD && token != CHANGE))) {
+            return;
+        }
+        uint32_t code = token == CHANGE ? adtg_update_end(file, file_length, number, data, length, start, out)
+                                        : adtg_row_end(file, file_length, number, data, length, start, out);
+        if (code != 0) {
+            return;
+        }
+        way->at = out[0];
+        way->rows += token != CHANGE;
+    }
+}
+
+/* What a reader has to answer by what the check of the same bytes says: whole rows in place of the section's own 1. */
+static adtg_fed wanted_fed(const struct input *in, struct way *way, size_t length, int closed)
+{
+    uint64_t out[16];
+    uint32_t code = adtg_check_section(in->file.at, in->file.length, in->data.at, length, out);
+    if (code == ADTG_SHORT && out[1] == ADTG_SECTION && !closed) {
+        go_on(in, way, length);
+        return (adtg_fed){0, ADTG_GOING, way->rows, 0};
+    }
+    return code == 0 ? (adtg_fed){0, ADTG_COMPLETE, out[0], 0} : (adtg_fed){code, 0, out[0], out[1]};
+}
+
+/* The size of the next fragment: by a byte of the file, at times none. */
+static size_t next_size(const struct input *in, size_t turn, size_t left)
+{
+    size_t byte = in->file.length > 0 ? in->file.at[turn % in->file.length] : turn;
+    size_t size = byte % (in->column % 64 + 2);
+    return turn + 1 == FRAGMENTS || size > left ? left : size;
+}
+
+/* A section that arrives in fragments is answered as it is checked, after each of them and at the end; a refusal stands, and so
+ * does the answer of the close. */
+static void arrival(const struct input *in)
+{
+    adtg_reader first = adtg_first_reader(), zeros;
+    memset(&zeros, 0, sizeof zeros);
+    need(memcmp(&first, &zeros, sizeof first) == 0, "the first reader has seen something");
+    adtg_reader *reader = lend_reader(READER_SLOT, &first, in->guard_in_front);
+    struct way way = {0, 0};
+    adtg_fed stands = {0, 0, 0, 0};
+    for (size_t turn = 0, at = 0; turn < FRAGMENTS && (at < in->data.length || turn == 0); turn++) {
+        size_t size = next_size(in, turn, in->data.length - at);
+        struct bytes fragment = lend(FIRST_SLOT, in->data.at + at, size, in->guard_in_front);
+        at += size;
+        adtg_fed fed = adtg_feed(in->file.at, in->file.length, reader, fragment.at, fragment.length);
+        check_fed(FEED, fed);
+        if (stands.code != 0) {
+            need(same_fed(fed, stands), "a refusal does not stand");
+            continue;
+        }
+        need(same_fed(fed, wanted_fed(in, &way, at, 0)), "a fragment is answered in another way");
+        if (fed.code != 0) {
+            stands = fed;
+        }
+        /* A copy that is closed here. */
+        adtg_reader *copy = lend_reader(SECOND_SLOT, reader, in->guard_in_front);
+        adtg_fed closed = adtg_close(in->file.at, in->file.length, copy);
+        check_fed(CLOSE, closed);
+        need(same_fed(closed, stands.code != 0 ? stands : wanted_fed(in, &way, at, 1)), "a close is answered in another way");
+        adtg_fed later = adtg_feed(in->data.at, in->data.length, copy, in->file.at, in->file.length);
+        need(same_fed(later, closed), "the answer of a close does not stand");
+    }
+    adtg_fed closed = adtg_close(in->file.at, in->file.length, reader);
+    check_fed(CLOSE, closed);
+    need(stands.code == 0 || same_fed(closed, stands), "a refusal does not stand");
+    need(same_fed(closed, adtg_close(in->data.at, in->data.length, reader)), "the answer of a close does not stand");
+}
+
+/* Calls with a reader of any bytes answer something. */
+static void forged_calls(const struct input *in, const adtg_reader *forged)
+{
+    adtg_reader *reader = lend_reader(READER_SLOT, forged, in->guard_in_front);
+    for (size_t turn = 0, at = 0; turn < 3; turn++) {
+        size_t size = next_size(in, turn, in->data.length - at);
+        struct bytes fragment = lend(FIRST_SLOT, in->data.at + at, size, in->guard_in_front);
+        at += size;
+        check_fed(FORGED_FEED, adtg_feed(in->file.at, in->file.length, reader, fragment.at, fragment.length));
+    }
+    check_fed(FORGED_FEED, adtg_feed(in->file.at, in->file.length, reader, in->data.at, in->data.length));
+    reader = lend_reader(READER_SLOT, forged, in->guard_in_front);
+    check_fed(FORGED_CLOSE, adtg_close(in->file.at, in->file.length, reader));
+}
+
+/* A reader of any bytes, and one that was fed a part of the section and then changed in a few. */
+static void forged_reader(const struct input *in)
+{
+    adtg_reader reader;
+    memset(&reader, 0, sizeof reader);
+    memcpy(&reader, in->file.at, in->file.length < sizeof reader ? in->file.length : sizeof reader);
+    forged_calls(in, &reader);
+
+    reader = adtg_first_reader();
+    size_t part = in->offset % (in->data.length + 1);
+    (void)adtg_feed(in->file.at, in->file.length, &reader, in->data.at, part);
+    uint8_t *bytes = (uint8_t *)&reader;
+    for (size_t at = 0; at + 1 < in->data.length && at < 6; at += 2) {
+        bytes[in->data.at[at] % sizeof reader] ^= in->data.at[at + 1];
+    }
+    forged_calls(in, &reader);
+}
+
 static int same(adtg_found found, uint32_t code, const uint64_t out[16])
 {
     if (code != 0) {
@@ -706,5 +866,7 @@ int LLVMFuzzerTestOneInput(const uint8_t *bytes, size_t size)
     forged_plan(&in);
     changed_plan(&in);
     batches(&in);
+    arrival(&in);
+    forged_reader(&in);
     return 0;
 }

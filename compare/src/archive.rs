@@ -3,6 +3,7 @@
 
 use adtg::raw::{self, Malformed};
 
+use crate::reading::arrival::Progress;
 use crate::reading::header::Header;
 use crate::reading::numbers::PlanNumbers;
 use crate::reading::options::Options;
@@ -155,6 +156,16 @@ pub fn check_section(file: &[u8], section: &[u8]) -> Reply<usize> {
 /// numbers each.
 pub fn list_section(file: &[u8], section: &[u8], table: &mut [u32]) -> Reply<usize> {
     told(raw::list_section(file, section, table).decode())
+}
+
+/// What the archive answers to the next fragment of a section.
+pub fn feed(file: &[u8], reader: &mut adtg::Reader, fragment: &[u8]) -> Reply<Progress> {
+    told(raw::feed(file, reader, fragment).decode())
+}
+
+/// What the archive answers when a section is over, which is never that it goes on.
+pub fn close(file: &[u8], reader: &mut adtg::Reader) -> Reply<Progress> {
+    told(raw::close(file, reader).decode_closed()).map(Progress::Complete)
 }
 
 /// The archive's plan of one schema of a file.
@@ -320,6 +331,15 @@ impl From<adtg::Current> for Current {
                 prefixes,
             },
             adtg::Current::Forced => Current::Forced,
+        }
+    }
+}
+
+impl From<adtg::Progress> for Progress {
+    fn from(progress: adtg::Progress) -> Progress {
+        match progress {
+            adtg::Progress::Going(elements) => Progress::Going(elements),
+            adtg::Progress::Complete(rows) => Progress::Complete(rows),
         }
     }
 }

@@ -1,6 +1,6 @@
 //! `compare vectors FOLDER`, `compare random` and `compare soak`: holds the reading, the vectors
 //! and the archive against each other. `compare bench` measures look-ups, sections and batches of
-//! both.
+//! both, and sections that are fed in fragments.
 
 use std::env;
 use std::num::NonZero;
@@ -9,7 +9,7 @@ use std::process::ExitCode;
 use std::thread::available_parallelism;
 use std::time::Duration;
 
-use compare::bench::{batches, look_ups, sections};
+use compare::bench::{batches, feeds, look_ups, sections};
 use compare::trials::{self, Limit};
 use compare::vectors;
 use compare::Totals;
@@ -19,7 +19,8 @@ const USAGE: &str = "usage: compare vectors FOLDER
        compare soak [--seed S] [--minutes N] [--threads N]
        compare bench [--count [fixed|nullable|eight|variable COLUMN]]
        compare bench sections [--count [short|wide|nested|page]]
-       compare bench batch [--count [short|wide|nested|page]]";
+       compare bench batch [--count [short|wide|nested|page]]
+       compare bench feed [--count [short|wide|nested|page]]";
 
 const DEFAULT_SEED: u64 = 1;
 const DEFAULT_CASES: u64 = 200_000;
@@ -53,6 +54,9 @@ fn run(words: &[&str]) -> Result<Totals, String> {
         ["bench", "batch"] => batches::run(),
         ["bench", "batch", "--count"] => batches::count(None),
         ["bench", "batch", "--count", rows] => batches::count(Some(rows)),
+        ["bench", "feed"] => feeds::run(),
+        ["bench", "feed", "--count"] => feeds::count(None),
+        ["bench", "feed", "--count", rows] => feeds::count(Some(rows)),
         ["bench", "--count"] => look_ups::count(None),
         ["bench", "--count", table, column] => {
             let column = column

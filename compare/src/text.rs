@@ -4,6 +4,7 @@ use std::fmt::Write;
 use std::ops::Range;
 
 use crate::archive::{Fault, Reply};
+use crate::reading::arrival::Progress;
 use crate::reading::header::Header;
 use crate::reading::numbers::{Part, PlanNumbers, COUNTS};
 use crate::reading::options::Options;
@@ -132,6 +133,15 @@ impl Text for Current {
             Current::Updated { place, prefixes } => field("update", place, *prefixes),
             Current::Forced => "null".to_string(),
             Current::Original(answer) => answer.text(),
+        }
+    }
+}
+
+impl Text for Progress {
+    fn text(&self) -> String {
+        match self {
+            Progress::Going(elements) => format!("going {elements}"),
+            Progress::Complete(rows) => format!("rows {rows}"),
         }
     }
 }

@@ -5,6 +5,7 @@ use std::path::{Path, PathBuf};
 use std::str::FromStr;
 
 use crate::archive::{self, Reply};
+use crate::reading::arrival::{Arrival, Progress};
 use crate::reading::batch::{find_column, CHAPTER_MARK, NULL_MARK, PARENTS, SPAN_NUMBERS};
 use crate::reading::encode::{entry_numbers, write_original, write_update, Entry};
 use crate::reading::header::read_header;
@@ -109,6 +110,7 @@ fn call_of(name: &str) -> Option<Call> {
         "check_section" => check_section_line,
         "list_section" => list_section_line,
         "find_column" => find_column_line,
+        "feed" => feed_line,
         _ => return None,
     })
 }
@@ -327,6 +329,39 @@ fn find_column_line(inputs: &[&str]) -> Result<Answers, String> {
     })
 }
 
+fn feed_line(inputs: &[&str]) -> Result<Answers, String> {
+    let [schema, calls] = take(inputs)?;
+    let schema = parse_hex(schema)?;
+    // Here `-` is one empty fragment.
+    let calls: Result<Vec<Fed>, String> = calls.split(',').map(parse_call).collect();
+    let calls = calls?;
+    let (mut arrival, mut reader) = (Arrival::default(), adtg::Reader::new());
+    let by_reading = |call: &Fed| match call {
+        Fed::Fragment(bytes) => arrival.feed(&schema, bytes),
+        Fed::Close => arrival.close(&schema),
+    };
+    let by_archive = |call: &Fed| match call {
+        Fed::Fragment(bytes) => archive::feed(&schema, &mut reader, bytes),
+        Fed::Close => archive::close(&schema, &mut reader),
+    };
+    Ok(Answers {
+        reading: fed_text(&calls, by_reading),
+        archive: fed_text(&calls, by_archive),
+    })
+}
+
+/// A call on a reader of fragments.
+enum Fed {
+    Fragment(Vec<u8>),
+    Close,
+}
+
+/// What each call in turn answers.
+fn fed_text<E: Text>(calls: &[Fed], answer: impl FnMut(&Fed) -> Result<Progress, E>) -> String {
+    let answers: Vec<String> = calls.iter().map(answer).map(|one| one.text()).collect();
+    answers.join(" | ")
+}
+
 /// The reading's batch with the columns of a schema of a file.
 fn find_in_schema(
     schema: &[u8],
@@ -488,6 +523,14 @@ fn parse_list<T>(text: &str, part: fn(&str) -> Result<T, String>) -> Result<Vec<
         return Ok(Vec::new());
     }
     text.split(',').map(part).collect()
+}
+
+/// A fragment or the close.
+fn parse_call(text: &str) -> Result<Fed, String> {
+    match text {
+        "close" => Ok(Fed::Close),
+        _ => parse_hex(text).map(Fed::Fragment),
+    }
 }
 
 /// An entry for a row writer.

@@ -1,6 +1,7 @@
 //! The size limit comes before everything else, and names the first input that is over it.
 
 use compare::archive::{self, Fault};
+use compare::reading::arrival::{Arrival, Progress};
 use compare::reading::batch::PARENTS;
 use compare::reading::encode::{write_original, write_update};
 use compare::reading::plan::make_plan;
@@ -14,6 +15,9 @@ use compare::reading::{Error, ErrorCode, Input, MAX_INPUT};
 
 /// One column of one byte that is not nullable.
 const SCHEMA: [u8; 3] = [0x01, 0x11, 0x00];
+/// One column of bytes that is not nullable, and the longest value that it can have.
+const LONG: [u8; 7] = [0x01, 0x80, 0x01, 0x00, 0xFF, 0xFF, 0x01];
+const LONGEST: usize = 32_767;
 /// A schema that is refused for its count.
 const BAD: [u8; 1] = [0x00];
 
@@ -119,6 +123,70 @@ fn a_section_at_the_limit_is_read() {
     assert_eq!(list_section(&schema, &section, &mut [9; 7]), Err(error));
     let of_archive = archive::list_section(&schema, &section, &mut [9; 7]);
     assert_eq!(of_archive, Err(Fault::Error(error)));
+}
+
+/// What both sides answer to these fragments, one after the other, and then to the close.
+fn fed(schema: &[u8], fragments: &[&[u8]]) -> Vec<Result<Progress, Error>> {
+    let (mut arrival, mut reader) = (Arrival::default(), adtg::Reader::new());
+    let mut answers = Vec::new();
+    for fragment in fragments {
+        let answer = arrival.feed(schema, fragment);
+        let of_archive = archive::feed(schema, &mut reader, fragment);
+        assert_eq!(of_archive, answer.map_err(Fault::Error));
+        answers.push(answer);
+    }
+    let answer = arrival.close(schema);
+    let of_archive = archive::close(schema, &mut reader);
+    assert_eq!(of_archive, answer.map_err(Fault::Error));
+    answers.push(answer);
+    answers
+}
+
+/// Rows of one long column, of so many bytes together.
+fn long_rows(size: usize) -> Vec<u8> {
+    let mut bytes = Vec::with_capacity(size + 3);
+    while bytes.len() < size {
+        let length = LONGEST.min(size - bytes.len() - 5);
+        bytes.push(PARENT);
+        bytes.extend((length as u32).to_le_bytes());
+        bytes.resize(bytes.len() + length, 0x2A);
+    }
+    bytes
+}
+
+#[test]
+fn fragments_are_measured_together() {
+    let of_section = |code, offset| Err(Error::new(code, offset, Input::Section));
+    let over_limit = over(Input::Section);
+    let rows = MAX_INPUT.div_ceil(5 + LONGEST);
+    let (going, complete) = (Ok(Progress::Going(rows)), Ok(Progress::Complete(rows)));
+    // Whole rows up to the limit, and no end.
+    let short = long_rows(MAX_INPUT);
+    let truncated = of_section(ErrorCode::Truncated, MAX_INPUT);
+    assert_eq!(fed(&LONG, &[&short]), [going, truncated]);
+    let answers = fed(&LONG, &[&short, &[], &[END]]);
+    assert_eq!(answers, [going, going, over_limit, over_limit]);
+    assert_eq!(fed(&LONG, &[&short.repeat(2)]), [over_limit; 2]);
+    // The end is the last byte within the limit.
+    let mut full = long_rows(MAX_INPUT - 1);
+    full.push(END);
+    assert_eq!(fed(&LONG, &[&full]), [complete; 2]);
+    let answers = fed(&LONG, &[&full, &[], &[END]]);
+    assert_eq!(answers, [complete, complete, over_limit, over_limit]);
+    full.push(END);
+    assert_eq!(fed(&LONG, &[&full]), [over_limit; 2]);
+    // The byte behind the end is the last one within the limit.
+    let mut behind = long_rows(MAX_INPUT - 2);
+    behind.extend([END; 3]);
+    let trailing = of_section(ErrorCode::Trailing, MAX_INPUT - 1);
+    assert_eq!(fed(&LONG, &[&behind]), [trailing; 2]);
+    let (first, rest) = behind.split_at(MAX_INPUT - 1);
+    assert_eq!(fed(&LONG, &[first, rest]), [complete, trailing, trailing]);
+    // The file has a limit of its own, and its other errors come first too.
+    let range = Err(Error::new(ErrorCode::NumberRange, 0, Input::Schema));
+    assert_eq!(fed(&BAD, &[&full]), [range; 2]);
+    assert_eq!(fed(&full, &[&[]]), [over(Input::Schema); 2]);
+    assert_eq!(fed(&full, &[&full]), [over(Input::Schema); 2]);
 }
 
 #[test]

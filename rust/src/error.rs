@@ -51,9 +51,9 @@ pub enum ErrorKind {
     Capacity = 16,
     /// The plan is not that of the schema; offset: 0.
     PlanMismatch = 17,
-    /// No such schema, column, child id, place or entry; offset: 0.
+    /// No such schema, column, child id, place, entry or reader; offset: 0.
     Missing = 18,
-    /// An input has more than 16,777,216 bytes; offset: 0.
+    /// An input has more than 16,777,216 bytes, or all fragments together; offset: 0.
     TooLarge = 19,
     /// An entry can't stand in its column; offset: the column.
     Entry = 20,
@@ -142,11 +142,13 @@ pub enum Input {
     Async = 19,
     /// The child id.
     ChildId = 20,
+    /// The record of a reader.
+    Reader = 21,
 }
 
 impl Input {
     /// All inputs, in the order of their codes.
-    pub const ALL: [Input; 21] = [
+    pub const ALL: [Input; 22] = [
         Input::Single,
         Input::Schema,
         Input::SchemaNumber,
@@ -168,9 +170,10 @@ impl Input {
         Input::ThirdString,
         Input::Async,
         Input::ChildId,
+        Input::Reader,
     ];
 
-    /// The code, 0 to 20.
+    /// The code, 0 to 21.
     pub const fn code(self) -> u64 {
         self as u64
     }
@@ -245,6 +248,7 @@ impl fmt::Display for Input {
             Input::ThirdString => "the third string",
             Input::Async => "the async option",
             Input::ChildId => "the child id",
+            Input::Reader => "the reader",
         })
     }
 }
@@ -265,7 +269,7 @@ mod tests {
         }
         assert_eq!(ErrorKind::from_code(0), None);
         assert_eq!(ErrorKind::from_code(21), None);
-        assert_eq!(Input::from_code(21), None);
+        assert_eq!(Input::from_code(22), None);
     }
 
     #[test]

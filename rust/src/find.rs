@@ -249,7 +249,7 @@ mod tests {
             decode(0, 3, 0, 0, 1),
             decode(14, 1, 5, 3, 0),
             decode(14, 0, 5, 3, 1),
-            decode(14, 0, 5, 21, 0),
+            decode(14, 0, 5, 22, 0),
             decode(21, 0, 5, 3, 0),
         ] {
             assert!(wrong.is_err(), "{wrong:?}");

@@ -5,7 +5,9 @@
 //! panics on any input: a panic says that a library of another version was linked.
 //!
 //! ```
-//! use adtg::{check_section, list_section, ErrorKind, Owner, Plan, RowKind, ROW_NUMBERS};
+//! use adtg::{
+//!     check_section, list_section, ErrorKind, Owner, Plan, Reader, RowKind, ROW_NUMBERS,
+//! };
 //!
 //! # fn main() -> Result<(), adtg::Error> {
 //! // A four-byte integer, and a chapter whose rows have one byte.
@@ -39,6 +41,13 @@
 //!     assert_eq!(span.part(&section), Some(&[5, 0, 0, 0][..]));
 //! }
 //!
+//! // The section as it arrives, in fragments that need not be kept.
+//! let mut reader = Reader::new();
+//! for fragment in section.chunks(7) {
+//!     reader.feed(&schema, fragment)?;
+//! }
+//! assert_eq!(reader.close(&schema), Ok(count));
+//!
 //! let error = plan.look_up(&[5, 0], 0).unwrap_err();
 //! assert_eq!((error.kind, error.offset), (ErrorKind::Short, 2));
 //! # Ok(())
@@ -52,6 +61,7 @@
 //! | [`row`], [`update`] | look-ups in rows, update data and changed rows, with the schema file |
 //! | [`mod@write`] | the writers of rows and update data |
 //! | [`section`] | row sections and the table of their rows |
+//! | [`arrival`] | row sections that arrive in fragments |
 //! | [`plan`], [`find`] | plans, and look-ups through them |
 //! | [`batch`] | one column of all rows of one owner, through a plan |
 //! | [`raw`] | the calls and their replies as they are |
@@ -59,6 +69,7 @@
 #![deny(missing_docs)]
 #![deny(unsafe_code)]
 
+pub mod arrival;
 pub mod batch;
 pub mod error;
 pub mod find;
@@ -71,6 +82,7 @@ pub mod section;
 pub mod update;
 pub mod write;
 
+pub use arrival::{Progress, Reader};
 pub use batch::{Owner, Span, Spans, SPAN_NUMBERS};
 pub use error::{Error, ErrorKind, Input};
 pub use find::{Found, RowHandle};

@@ -3,7 +3,7 @@
 
 use adtg::{
     check_section, field_count, list_section, look_up, read_header, read_options, row_end, Answer,
-    Error, ErrorKind, Header, Input, Options, Owner, Plan, Row, RowKind, Span,
+    Error, ErrorKind, Header, Input, Options, Owner, Plan, Progress, Reader, Row, RowKind, Span,
 };
 
 const TABLEGRAM: &[u8; 744] = include_bytes!("../../captures/pubs.adtg");
@@ -152,6 +152,21 @@ fn the_batch_finds_the_five_fields() {
 }
 
 #[test]
+fn the_section_may_arrive_byte_by_byte() {
+    let mut reader = Reader::new();
+    for (at, byte) in section().iter().enumerate() {
+        // The row ends with its last field, and the section with the token behind it.
+        let wanted = match at {
+            0..35 => Progress::Going(0),
+            35 => Progress::Going(1),
+            _ => Progress::Complete(1),
+        };
+        assert_eq!(reader.feed(&SCHEMA, &[*byte]), Ok(wanted), "{at}");
+    }
+    assert_eq!(reader.close(&SCHEMA), Ok(1));
+}
+
+#[test]
 fn a_capture_that_is_cut_off_is_refused_at_its_end() {
     let short = |offset, input| Error {
         kind: ErrorKind::Short,
@@ -171,5 +186,8 @@ fn a_capture_that_is_cut_off_is_refused_at_its_end() {
         let refused = short(end, Input::Section);
         assert_eq!(check_section(&SCHEMA, cut), Err(refused));
         assert_eq!(list_section(&SCHEMA, cut, &mut [0; 4]), Err(refused));
+        let mut reader = Reader::new();
+        assert!(reader.feed(&SCHEMA, cut).is_ok());
+        assert_eq!(reader.close(&SCHEMA), Err(refused));
     }
 }

@@ -1,6 +1,7 @@
 //! How long the archive and the reading take, on the same inputs in one process.
 
 pub mod batches;
+pub mod feeds;
 pub mod look_ups;
 pub mod sections;
 

@@ -17,7 +17,7 @@ use crate::Totals;
 
 /// How many bytes a section has, to the end of a row; and a page of rows, as a desk asks for it.
 pub(super) const BYTES_OF_SECTION: usize = 8_000_000;
-const BYTES_OF_PAGE: usize = 10_000;
+pub(super) const BYTES_OF_PAGE: usize = 10_000;
 
 /// How often a page is gone over in a round.
 const PAGES: usize = 100;
@@ -140,7 +140,7 @@ impl Case {
         })
     }
 
-    fn rows(&self) -> usize {
+    pub(super) fn rows(&self) -> usize {
         self.wanted.len() / ROW_NUMBERS
     }
 }

@@ -89,11 +89,12 @@ pub enum Input {
     ThirdString = 18,
     AsyncOption = 19,
     ChildId = 20,
+    Reader = 21,
 }
 
 impl Input {
     /// All inputs, in the order of their numbers.
-    pub const ALL: [Input; 21] = [
+    pub const ALL: [Input; 22] = [
         Input::Only,
         Input::Schema,
         Input::SchemaNumber,
@@ -115,12 +116,13 @@ impl Input {
         Input::ThirdString,
         Input::AsyncOption,
         Input::ChildId,
+        Input::Reader,
     ];
 
     /// The three strings of the handler options, in order.
     pub const STRINGS: [Input; 3] = [Input::FirstString, Input::SecondString, Input::ThirdString];
 
-    /// The input's number, 0 to 20.
+    /// The input's number, 0 to 21.
     pub const fn number(self) -> u64 {
         self as u64
     }
@@ -154,6 +156,7 @@ impl Input {
             Input::ThirdString => "third string",
             Input::AsyncOption => "async option",
             Input::ChildId => "child id",
+            Input::Reader => "reader",
         }
     }
 }
@@ -197,6 +200,6 @@ mod tests {
         }
         assert_eq!(ErrorCode::from_number(0), None);
         assert_eq!(ErrorCode::from_number(21), None);
-        assert_eq!(Input::from_number(21), None);
+        assert_eq!(Input::from_number(22), None);
     }
 }

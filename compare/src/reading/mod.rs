@@ -1,6 +1,7 @@
 //! The rules, read from the papers alone: one module for each piece of the format. Only `numbers`
 //! goes by the definitions of the proofs. Nothing here knows the proved code.
 
+pub mod arrival;
 pub mod batch;
 pub mod column;
 pub mod encode;

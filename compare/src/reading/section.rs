@@ -44,6 +44,16 @@ pub fn list_section(schema: &[u8], section: &[u8], table: &mut [u32]) -> Result<
     Ok(rows.count)
 }
 
+/// How many whole 07 and 87 elements the bytes of a section begin with, up to its end or to what is
+/// wrong with it. An 87 element is whole with its own data, whatever follows.
+pub(super) fn whole_elements(schema: &[u8], section: &[u8]) -> Result<usize, Error> {
+    let file = SchemaFile::read(schema, Input::Schema)?;
+    let mut rows = Rows::new(0);
+    // A row is added where its element ends, so the count stands also where an error ends the reading.
+    let _ = Elements::new(&file, section).read(&mut rows);
+    Ok(rows.count)
+}
+
 /// The rows of a whole section, of which a table has room for so many.
 fn rows_of(schema: &[u8], section: &[u8], capacity: usize) -> Result<Rows, Error> {
     check_size(schema, Input::Schema)?;

@@ -1,20 +1,23 @@
-//! Trials of plans that no call makes. A look-up through one always answers, and as the reading
-//! does through the same numbers; where the plan's own columns fix a place, a field starts there.
+//! Trials of plans and of readers that no call makes. A look-up through such a plan always answers,
+//! and as the reading does through the same numbers; where the plan's own columns fix a place, a
+//! field starts there. Such a reader always answers something.
 
 use super::plans::make;
 use super::row_data::{Form, Subject};
 use super::schema::SOUND;
+use super::sections::sections;
 use super::{complaints, number_past, Call, Run};
-use crate::archive;
+use crate::archive::{self, Fault, Reply};
 use crate::generate;
 use crate::random::Random;
+use crate::reading::arrival::Progress;
 use crate::reading::column::{BYTES, CHAPTER, FIXED, TEXT, WIDE_TEXT};
 use crate::reading::numbers::{Part, PlanNumbers, CHAPTERS, COUNTS, MAP, PLAN_NUMBERS, STOPS};
 use crate::reading::plan::make_plan;
 use crate::reading::row::Answer;
 use crate::reading::schema::MAX_COLUMNS;
 use crate::reading::{Error, ErrorCode, Input, MAX_INPUT};
-use crate::text::shown;
+use crate::text::{shown, Text};
 
 static CHECK: Call = Call {
     name: "forged check_plan",
@@ -46,6 +49,40 @@ static OPENED: Call = Call {
     name: "forged open_look_up",
     codes: &[ErrorCode::Truncated, ErrorCode::Length, ErrorCode::NoSuch],
 };
+static FEED: Call = Call {
+    name: "forged feed",
+    codes: &[ErrorCode::NoSuch],
+};
+static CLOSE: Call = Call {
+    name: "forged close",
+    codes: &[ErrorCode::NoSuch],
+};
+
+/// Numbers at limits: of stages, of maps and columns, of sections, of integers.
+const LIMITS: [u64; 22] = [
+    0,
+    1,
+    2,
+    3,
+    4,
+    5,
+    6,
+    7,
+    8,
+    9,
+    10,
+    16,
+    17,
+    63,
+    64,
+    255,
+    256,
+    16_777_215,
+    16_777_216,
+    16_777_217,
+    1 << 63,
+    u64::MAX,
+];
 
 /// A forged plan, checked against the schema that it began with, and one row: each column, and
 /// some that no plan has.
@@ -76,6 +113,79 @@ pub(super) fn oversized(zeros: &[u8], run: &mut Run) {
             look_ups(&plan, row, &[0, 1, usize::MAX], run);
         }
     }
+}
+
+/// Readers that were fed a part of a section and then changed, or that are of any numbers. A call
+/// answers, and says the same when it is made again.
+pub(super) fn reader_case(random: &mut Random, run: &mut Run) {
+    for (file, section) in sections(random) {
+        let (first, rest) = section.split_at(random.below(section.len() + 1));
+        let mut reader = adtg::Reader::new();
+        let _ = archive::feed(&file, &mut reader, first);
+        let mut reader = forged_reader(random, reader);
+        let fragments = [rest, &[], first, rest];
+        for fragment in fragments.into_iter().take(random.between(1, 4)) {
+            let call = |reader: &mut _| archive::feed(&file, reader, fragment);
+            reader = ask(&FEED, &reader, call, run, || {
+                format!("{} {}", shown(&file), shown(fragment))
+            });
+        }
+        let call = |reader: &mut _| archive::close(&file, reader);
+        ask(&CLOSE, &reader, call, run, || shown(&file));
+    }
+}
+
+/// Makes a call twice with the same reader: both answer the same, in the form of an answer. What the
+/// reader is then.
+fn ask(
+    call: &'static Call,
+    before: &adtg::Reader,
+    answer: impl Fn(&mut adtg::Reader) -> Reply<Progress>,
+    run: &mut Run,
+    inputs: impl FnOnce() -> String,
+) -> adtg::Reader {
+    let (mut once, mut again) = (before.clone(), before.clone());
+    let (reply, repeated) = (answer(&mut once), answer(&mut again));
+    let mut complaints = Vec::new();
+    if reply != repeated || once != again {
+        complaints.push(format!("archive: {}", reply.text()));
+        complaints.push(format!("archive, again: {}", repeated.text()));
+    }
+    let answered = match &reply {
+        Ok(progress) => Ok(*progress),
+        Err(Fault::Error(error)) => Err(*error),
+        Err(Fault::Malformed(malformed)) => {
+            complaints.push(malformed.to_string());
+            Err(Error::new(ErrorCode::NoSuch, 0, Input::Reader))
+        }
+    };
+    run.judge(call, &answered, &complaints, || {
+        format!("{before:?} {}", inputs())
+    });
+    once
+}
+
+/// A reader with some of its numbers changed, one of numbers at limits, or of any bytes.
+fn forged_reader(random: &mut Random, reader: adtg::Reader) -> adtg::Reader {
+    let mut bytes = reader.to_bytes();
+    let numbers = bytes.as_chunks_mut().0;
+    match random.below(8) {
+        0 => numbers.fill_with(|| random.bits().to_le_bytes()),
+        1 | 2 => numbers.fill_with(|| random.pick(&LIMITS).to_le_bytes()),
+        _ => {
+            for _ in 0..random.pick(&[1, 1, 1, 2, 3]) {
+                let at = random.below(numbers.len());
+                let old = u64::from_le_bytes(numbers[at]);
+                let turned = old ^ 1 << random.below(64);
+                let near = [old.wrapping_add(1), old.wrapping_sub(1)];
+                let any = random.bits();
+                let limit = random.pick(&LIMITS);
+                let new = random.pick(&[near[0], near[1], turned, limit, limit, any]);
+                numbers[at] = new.to_le_bytes();
+            }
+        }
+    }
+    adtg::Reader::from_bytes(bytes)
 }
 
 /// The archive accepts a plan only if it is the one that it would make.

@@ -1,6 +1,7 @@
 //! Randomised comparison: valid, damaged and random inputs for every call of the archive,
 //! each held against the reading.
 
+mod arrivals;
 mod batches;
 mod forged;
 mod header;
@@ -57,7 +58,7 @@ const SHORT: [Trial; 15] = [
 ];
 
 /// Trials that ask one row, or the rows of one section, for all columns, once in `BETWEEN_ROWS`.
-const ROWS: [Trial; 7] = [
+const ROWS: [Trial; 8] = [
     rows::look_up_case,
     rows::look_update_case,
     rows::current_case,
@@ -65,16 +66,18 @@ const ROWS: [Trial; 7] = [
     forged::look_up_case,
     batches::find_case,
     batches::forged_case,
+    forged::reader_case,
 ];
 const BETWEEN_ROWS: usize = 8;
 
-/// Trials that ask one file for all that it holds. They take their turn once in `BETWEEN_LONG`,
-/// so that the time is not all theirs.
-const LONG: [Trial; 4] = [
+/// Trials that ask one file for all that it holds, or feed sections in many fragments. They take
+/// their turn once in `BETWEEN_LONG`, so that the time is not all theirs.
+const LONG: [Trial; 5] = [
     schema::columns_case,
     schema::column_case,
     schema::child_case,
     plans::make_case,
+    arrivals::feed_case,
 ];
 const BETWEEN_LONG: usize = 32;
 
@@ -157,6 +160,7 @@ fn run_oversized(run: &mut Run) {
     row_writers::oversized(&bytes, run);
     sections::oversized(&bytes, run);
     batches::oversized(&bytes, run);
+    arrivals::oversized(&bytes, run);
 }
 
 impl Limit {

@@ -57,7 +57,7 @@ static LIST: Call = Call {
 const NO_TOKENS: [u8; 8] = [0x00, 0x0A, 0x0C, 0x0D, 0x80, 0x8D, 0x8F, 0xFF];
 
 /// The longest value that a column can have.
-const LONGEST: usize = 32_767;
+pub(super) const LONGEST: usize = 32_767;
 
 /// How many sections are made under one file.
 const SECTIONS: usize = 4;
@@ -77,9 +77,18 @@ const RUNS: [usize; 4] = [1, 2, 1_025, 262_144];
 
 /// Sections under one file, each with a table, and at times with another file.
 pub(super) fn read_case(random: &mut Random, run: &mut Run) {
+    for (file, section) in sections(random) {
+        let space = space(random, &file, &section);
+        let before: Vec<u32> = (0..space).map(|_| random.bits() as u32).collect();
+        read(&file, &section, &before, run);
+    }
+}
+
+/// Some sections under one file, each with that file and at times with another.
+pub(super) fn sections(random: &mut Random) -> Vec<(Vec<u8>, Vec<u8>)> {
     let sound = sound_file(random);
     let schemas = SchemaFile::read(&sound, Input::Schema).expect("the file is sound");
-    for _ in 0..SECTIONS {
+    let one = |_| {
         let section = match random.below(1_024) {
             0..=3 => long_section(random, &sound, &schemas),
             4 => noted_section(random, &sound, &schemas),
@@ -92,10 +101,9 @@ pub(super) fn read_case(random: &mut Random, run: &mut Run) {
             2 => damage(random, &mut file),
             _ => {}
         }
-        let space = space(random, &file, &section);
-        let before: Vec<u32> = (0..space).map(|_| random.bits() as u32).collect();
-        read(&file, &section, &before, run);
-    }
+        (file, section)
+    };
+    (0..SECTIONS).map(one).collect()
 }
 
 /// A section of about as many rows as a batch holds spans, at times damaged.
@@ -279,15 +287,22 @@ const FULL_ROW: usize = 1 + 4 + LONGEST;
 
 /// A section as long as it may be: the longest rows of one column, then a shorter one.
 fn full_section() -> Vec<u8> {
-    let mut bytes = Vec::with_capacity(MAX_INPUT + 1);
-    while bytes.len() + 1 < MAX_INPUT {
-        let left = MAX_INPUT - 1 - bytes.len();
+    let mut bytes = long_rows(MAX_INPUT - 1);
+    bytes.push(END);
+    bytes
+}
+
+/// The longest rows of one column, then a shorter one, of so many bytes together.
+pub(super) fn long_rows(size: usize) -> Vec<u8> {
+    // With room for the end and one byte more.
+    let mut bytes = Vec::with_capacity(size + 2);
+    while bytes.len() < size {
+        let left = size - bytes.len();
         let length = LONGEST.min(left - 5);
         bytes.push(PARENT);
         bytes.extend((length as u32).to_le_bytes());
         bytes.resize(bytes.len() + length, 0x2A);
     }
-    bytes.push(END);
     bytes
 }
 

@@ -1,2 +1,3 @@
 pub mod FileAnswers
 pub mod PlanAnswers
+pub mod FedAnswers

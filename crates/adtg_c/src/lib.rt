@@ -5,6 +5,7 @@
 pub mod batches;
 pub mod head;
 pub mod plans;
+pub mod readers;
 pub mod rows;
 pub mod schemas;
 pub mod sections;

@@ -26,7 +26,7 @@ pub enum FieldRead {
 }
 
 // The length in front of a field of variable length.
-fn length_at(column: Column, row: &[u8], at: usize) -> IntRead
+pub fn length_at(column: Column, row: &[u8], at: usize) -> IntRead
     ensures { λ r. ⌜ toldInt r ≡ readInt (now (row .entry)) at (prefixSize column) ⌝ }
 {
     if column.prefix_size() == 1 {

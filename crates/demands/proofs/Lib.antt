@@ -12,3 +12,4 @@ pub mod WriterExactly
 pub mod PlanExactly
 pub mod Trips
 pub mod Calls
+pub mod Arrivals

@@ -110,7 +110,7 @@ module _ (file s : Bytes) where
       by (wrong q) e = absurd (bad-ok e)
 
 -- an error is no count of rows
-count-bad : (r : Read (List Row)) (code offset : ℕ) (i : Input) → rowCount r ≡ bad code offset i ↔ r ≡ bad code offset i
+pub count-bad : (r : Read (List Row)) (code offset : ℕ) (i : Input) → rowCount r ≡ bad code offset i ↔ r ≡ bad code offset i
 count-bad (ok rs) code offset i = ((λ e. absurd (bad-ok (sym e))), (λ e. absurd (bad-ok (sym e))))
 count-bad (bad c o j) code offset i = (
   (λ e. let x : c ≡ code = cc in let y : o ≡ offset = cc in let z : j ≡ i = cc in rw (x, y, z) refl),
@@ -144,7 +144,7 @@ valid-within file S e =
     sized-ok file u e2
 
 -- with the premises, the answer is that of the section
-given-checked : {file s : Bytes} {S : List Schema} → Given file s S → rowsChecked file s ≡ about input.Section (section S s)
+pub given-checked : {file s : Bytes} {S : List Schema} → Given file s S → rowsChecked file s ≡ about input.Section (section S s)
 given-checked {file} {s} {S} g = file-read file s (valid-within file S (g .valid)) (g .within) S (g .valid)
 
 -- Demand 2: acceptance.

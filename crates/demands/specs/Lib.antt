@@ -11,3 +11,4 @@ pub mod WriterFaults
 pub mod PlanFaults
 pub mod Trips
 pub mod Calls
+pub mod Arrivals

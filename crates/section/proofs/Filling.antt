@@ -13,11 +13,9 @@ use borrow.Author.Tests.{eqb-false, ne-eqb}
 use Rattle.wire.specs.Read.{Bytes, AreBytes, Read, ok, bad, pick}
 use Rattle.wire.specs.Output.{put}
 use Rattle.wire.proofs.Pieces.{ok-ok, bad-ok}
-use mathlib.Core.Option.{Option, none, some}
 use Rattle.column.specs.declared.column.Column.{Column}
 use Rattle.walk.specs.Rows.{rowEnd}
 use Rattle.tree.specs.Schemas.{Schema, childNumber, or0}
-use Rattle.tree.proofs.Children.{child-found}
 use Rattle.grammar.specs.Grammar.{columnsAt, Row, entry}
 use Rattle.grammar.specs.Reader.{Token, parentToken, childToken, changeToken, deleteToken, doneToken, unknownToken, tokenOf, idAt, section}
 use Rattle.grammar.specs.Pending.{Pending, nothing, child-row, beforeOf, flush}
@@ -37,6 +35,7 @@ use Rattle.walk.specs.Data.{dataEnd}
 use Rattle.section.proofs.RowsByHead.{HeadTold, told-done, told-delete, told-parent, told-child, told-change, byte-of}
 use Rattle.section.proofs.Scan.{allRows, AtElement, Begun, at-start, told, head-refused, head-done, deleted, Ahead, head-ahead, data-refused, data-inside, row-ended, change-ended, table-long}
 use Rattle.section.proofs.Noting.{data-ends, delete-ends, note-next, note-same, end-place, stepped-same}
+use Rattle.section.proofs.HeadLaws.{child-low}
 use Rattle.section.proofs.RunLaws.{laid-run-none, run-more, run-less, run-element, parent-ends, in-step}
 
 abbrev ElseIs : Token → Type 0
@@ -408,12 +407,11 @@ no-run first start step n table z = rw z (sym (laid-run-none first start step ta
 
 -- the number of a row's schema is one of the schemas
 pub number-low : (S : List Schema) (kind id : ℕ) → 1 ≤ length S → numberFor S kind id < length S
-number-low S kind id top = go (eqb kind 1) (childNumber S id) refl
+number-low S kind id top = go (eqb kind 1)
   where
-    go : (b : Bool) (c : Option ℕ) → childNumber S id ≡ c → pick b 0 (or0 c) < length S
-    go true c e = omega (arith, top)
-    go false none e = omega (arith, top)
-    go false (some k) e = child-found S id k e .1
+    go : (b : Bool) → pick b 0 (or0 (childNumber S id)) < length S
+    go true = omega (arith, top)
+    go false = child-low S id top
 
 -- a choice of two numbers that are both small
 chosen-under : (b : Bool) (x y n : ℕ) {r : ℕ} → r ≡ pick b x y → x < n → y < n → r < n

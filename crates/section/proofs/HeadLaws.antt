@@ -17,6 +17,7 @@ use Rattle.wire.proofs.Laws.{whole-fits, whole-short}
 use Rattle.wire.proofs.Pieces.{bad-ok, bind-ok, check-ok, ok-ok, cut-length, value-small, bytes-take, bytes-drop}
 use Rattle.tree.specs.Schemas.{Schema, childNumber, or0}
 use Rattle.tree.specs.Table.{schemaSlot, idIn, schemasIn}
+use Rattle.tree.proofs.TableSays.{schemas-in-length}
 use Rattle.tree.proofs.Children.{child-found}
 use Rattle.grammar.specs.Grammar.{Before, other}
 use Rattle.grammar.specs.Reader.{Token, childToken, changeToken, deleteToken, doneToken, unknownToken, tokenOf, knownChild, follows, idAt}
@@ -222,6 +223,19 @@ number-some ss id {k} h n = go (childNumber ss id) h
     go : (o : Option ℕ) → k ≡ or0 o → o ≡ some k
     go none e = absurd (n e)
     go (some j) e = ap (λ (m : ℕ). some m) (sym e)
+
+-- and in any case the number of a schema
+pub child-low : (ss : List Schema) (id : ℕ) → 1 ≤ length ss → or0 (childNumber ss id) < length ss
+child-low ss id top = go (childNumber ss id) refl
+  where
+    go : (o : Option ℕ) → childNumber ss id ≡ o → or0 o < length ss
+    go none e = omega (arith, top)
+    go (some k) e = child-found ss id k e .1
+
+pub number-in : (slots : List ℕ) (n id : ℕ) {k : ℕ} → 1 ≤ n → k ≡ or0 (childNumber (schemasIn 0 n slots) id) → k < n
+number-in slots n id top e =
+    let m : length (schemasIn 0 n slots) ≡ n = schemas-in-length 0 n slots in
+    omega (arith, e, child-low (schemasIn 0 n slots) id (omega (arith, m, top)), m)
 
 -- The heads that the quick way knows, where five bytes are there.
 module _ (slots : List ℕ) (n : ℕ) (s : Bytes) (at : ℕ) (h : at + 5 ≤ length s) where

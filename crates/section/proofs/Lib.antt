@@ -9,3 +9,4 @@ pub mod Scanning
 pub mod Filling
 pub mod Listing
 pub mod Turns
+pub mod Passing

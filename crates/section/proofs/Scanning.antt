@@ -46,7 +46,7 @@ columns-at slots n k h =
     ap (λ (x : Schema). map asColumn (x .columns)) (schemas-in-at 0 n slots k h ∙ ap (λ (j : ℕ). schemaIn j slots) z)
 
 -- the slot of a child's schema holds its id
-child-slot : (slots : List ℕ) (n id k : ℕ) → childNumber (schemasIn 0 n slots) id ≡ some k → (1 ≤ k) × (k < n) × (idIn (getD slots (schemaSlot k) 0) ≡ id)
+pub child-slot : (slots : List ℕ) (n id k : ℕ) → childNumber (schemasIn 0 n slots) id ≡ some k → (1 ≤ k) × (k < n) × (idIn (getD slots (schemaSlot k) 0) ≡ id)
 unfolding schemaIn
 child-slot slots n id k e =
     let (a, b, c) = child-found (schemasIn 0 n slots) id k e in

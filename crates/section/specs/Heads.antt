@@ -1,4 +1,4 @@
--- Inner: the head of an element: its token and child id with all checks of them, up to its data.
+-- Promise: the head of an element: its token and child id with all checks of them, up to its data.
 -- Assumes nothing.
 use Prim.Native.Nat.{ℕ, zero, suc, _+_}
 use mathlib.Core.List.{List, [], _∷_}
@@ -53,7 +53,9 @@ abbrev pub beforeIn : (slots : List ℕ) (child : ℕ) → Before
 beforeIn slots zero = other
 beforeIn slots (suc k) = after (idIn (getD slots (schemaSlot (suc k)) 0))
 
--- and where its original row data start
+-- Inner.
+
+-- what is pending, as code keeps it: that schema number, and where the original row data of the 87 element start
 abbrev pub pendingIn : (slots : List ℕ) (child origin : ℕ) → Pending
 pendingIn slots zero origin = nothing
 pendingIn slots (suc k) origin = child-row (idIn (getD slots (schemaSlot (suc k)) 0)) origin

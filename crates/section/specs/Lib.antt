@@ -1,7 +1,8 @@
 pub mod Table
+pub mod Heads
+pub mod Passes
 -- Inner.
 pub mod Ends
-pub mod Heads
 pub mod Runs
 pub mod Said
 pub mod Sizes

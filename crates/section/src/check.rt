@@ -24,10 +24,10 @@ use wire::error::ErrorKind;
 use wire::error::Input;
 
 // So many numbers hold the shapes of a few schemas, and to clear more takes time.
-pub(crate) const FEW_NUMBERS: usize = 256;
+pub const FEW_NUMBERS: usize = 256;
 
 // So many hold those of any file.
-pub(crate) const MOST_NUMBERS: usize = 3_072;
+pub const MOST_NUMBERS: usize = 3_072;
 
 // Reads the schema file of a section into a table of slots, where neither is over the limit.
 pub(crate) fn read_schemas(file: &[u8], section: &[u8], slots: &mut [u64; 512]) -> PlaceRead

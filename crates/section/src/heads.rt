@@ -19,15 +19,15 @@ use wire::integer::IntRead;
 use wire::integer::u32_at;
 
 // Tokens of the elements, and of the section's end.
-pub(crate) const PARENT: u8 = 0x07;
+pub const PARENT: u8 = 0x07;
 
-pub(crate) const CHILD: u8 = 0x87;
+pub const CHILD: u8 = 0x87;
 
-pub(crate) const CHANGE: u8 = 0x8A;
+pub const CHANGE: u8 = 0x8A;
 
-pub(crate) const DELETE: u8 = 0x8C;
+pub const DELETE: u8 = 0x8C;
 
-pub(crate) const DONE: u8 = 0x0F;
+pub const DONE: u8 = 0x0F;
 
 // A head that was read. Of row data: the kind of its row so far, the number of its schema, its child id, where the data start.
 pub enum Head {

@@ -6,6 +6,9 @@ ghost use Rattle.section.specs.Runs.{Run, laidRun};
 use crate::heads::PARENT;
 use crate::table::put_row;
 
+// The most bytes of a step.
+pub(crate) const MOST_STEP: usize = 65_536;
+
 // How many parents follow each other from `start` on, each by a step from the one before. Without a step it says none. Two are passed at a turn.
 pub(crate) fn run(section: &[u8], start: usize, step: usize) -> usize
     requires { ⌜ (start ≤ length (now section)) × (length (now section) ≤ 16777216) × (step ≤ 65536) ⌝ }

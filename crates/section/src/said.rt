@@ -1,10 +1,8 @@
 // The heads of elements with row data, by the quick way: what they are where nothing is wrong.
-ghost use mathlib.Core.Path.{_≡_};
 ghost use Prim.Native.Nat.{_≤_, _<_};
 ghost use lib.ListN.{length};
-ghost use Rattle.shapes.specs.Shapes.{Sound};
 ghost use Rattle.section.specs.Heads.{beforeIn};
-ghost use Rattle.section.specs.Said.{SaidAt};
+ghost use Rattle.section.specs.Said.{SaidIn};
 use crate::children::find_child;
 use crate::heads::CHANGE;
 use crate::heads::CHILD;
@@ -30,8 +28,8 @@ pub(crate) fn head_said(
     child: usize,
     last: usize,
 ) -> Said
-    requires { ⌜ Sound (now slots) schemas × (child < schemas) × (length (now section) ≤ 16777216) × (last < schemas) ⌝ }
-    ensures { λ r. ⌜ SaidAt (now (slots .entry)) schemas (now (section .entry)) (beforeIn (now (slots .entry)) child) at r ⌝ }
+    requires { ⌜ (schemas ≤ 256) × (child < schemas) × (length (now section) ≤ 16777216) × (last < schemas) ⌝ }
+    ensures { λ r. ⌜ SaidIn (now (slots .entry)) schemas (now (section .entry)) (beforeIn (now (slots .entry)) child) at r ⌝ }
 {
     if lacks(section.len(), at, 5) {
         return Said {

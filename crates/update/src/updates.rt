@@ -66,7 +66,7 @@ pub fn breaks_force(column: Column, i: usize, update: &[u8], force: &[u8]) -> bo
 }
 
 // Whether update data hold a field of column `i`.
-pub(crate) fn is_carried(column: Column, i: usize, update: &[u8], force: &[u8]) -> bool
+pub fn is_carried(column: Column, i: usize, update: &[u8], force: &[u8]) -> bool
     ensures { λ r. ⌜ r ≡ carried (now (update .entry)) (now (force .entry)) (mark column i) ⌝ }
 {
     if is_set(update, i) {

@@ -52,3 +52,4 @@ inputNumber input.SecondString = 17
 inputNumber input.ThirdString = 18
 inputNumber input.Async = 19
 inputNumber input.ChildId = 20
+inputNumber input.Reader = 21

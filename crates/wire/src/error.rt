@@ -52,6 +52,7 @@ pub enum Input {
     ThirdString,
     Async,
     ChildId,
+    Reader,
 }
 
 // A refusal. The offset is the paper's place.
@@ -154,6 +155,7 @@ impl Input {
             Input::ThirdString => 18,
             Input::Async => 19,
             Input::ChildId => 20,
+            Input::Reader => 21,
         }
     }
 }

@@ -5,7 +5,8 @@
 //! nothing else overlaps it. `out` has sixteen numbers. Structs are laid out as in `adtg.h`. The
 //! archive takes any bytes and any values, and keeps nothing.
 
-use super::reply::{Numbers, PlanReply, Reply};
+use super::reply::{FedReply, Numbers, PlanReply, Reply};
+use crate::arrival::Reader;
 use crate::find::Found;
 use crate::plan::Plan;
 use crate::row::Answer;
@@ -85,6 +86,15 @@ extern "C" {
         table_length: usize,
         out: *mut Numbers,
     ) -> u32;
+    fn adtg_first_reader() -> Reader;
+    fn adtg_feed(
+        file: *const u8,
+        file_length: usize,
+        reader: *mut Reader,
+        fragment: *const u8,
+        fragment_length: usize,
+    ) -> FedReply;
+    fn adtg_close(file: *const u8, file_length: usize, reader: *mut Reader) -> FedReply;
     fn adtg_look_up(
         file: *const u8,
         file_length: usize,
@@ -325,6 +335,29 @@ pub fn list_section(file: &[u8], section: &[u8], table: &mut [u32]) -> Reply<usi
             out,
         )
     })
+}
+
+/// Calls `adtg_first_reader`.
+pub fn first_reader() -> Reader {
+    unsafe { adtg_first_reader() }
+}
+
+/// Calls `adtg_feed`.
+pub fn feed(file: &[u8], reader: &mut Reader, fragment: &[u8]) -> FedReply {
+    unsafe {
+        adtg_feed(
+            file.as_ptr(),
+            file.len(),
+            reader,
+            fragment.as_ptr(),
+            fragment.len(),
+        )
+    }
+}
+
+/// Calls `adtg_close`.
+pub fn close(file: &[u8], reader: &mut Reader) -> FedReply {
+    unsafe { adtg_close(file.as_ptr(), file.len(), reader) }
 }
 
 /// Calls `adtg_look_up`.

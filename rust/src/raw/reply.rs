@@ -3,6 +3,7 @@
 use std::fmt;
 use std::marker::PhantomData;
 
+use crate::arrival::Progress;
 use crate::error::{Error, ErrorKind, Input};
 use crate::plan::Plan;
 
@@ -118,6 +119,61 @@ impl PlanReply {
     }
 }
 
+/// The reply of the calls that are lent a reader.
+#[repr(C)]
+#[derive(Clone, Copy, Debug, PartialEq, Eq)]
+pub struct FedReply {
+    /// 0, or the number of the error.
+    pub code: u32,
+    /// How far the section has come; 0 beside an error.
+    pub progress: u32,
+    /// Whole elements or rows; the offset of an error.
+    pub first: u64,
+    /// The input of an error.
+    pub second: u64,
+}
+
+impl FedReply {
+    const GOING: u32 = 1;
+    const COMPLETE: u32 = 2;
+
+    /// The progress or the error that the reply says, if it has its form.
+    pub fn decode(self) -> Result<Result<Progress, Error>, Malformed> {
+        let error = error(self.code, self.first, self.second);
+        match (self.code, self.progress, self.second, error) {
+            (0, FedReply::GOING, 0, _) => Ok(Ok(Progress::Going(size(self.first)))),
+            (0, FedReply::COMPLETE, 0, _) => Ok(Ok(Progress::Complete(size(self.first)))),
+            (1.., 0, _, Some(error)) => Ok(Err(error)),
+            _ => Err(self.malformed()),
+        }
+    }
+
+    /// The same of a close: the count of rows or the error.
+    pub fn decode_closed(self) -> Result<Result<usize, Error>, Malformed> {
+        match self.decode()? {
+            Ok(Progress::Complete(rows)) => Ok(Ok(rows)),
+            Ok(Progress::Going(_)) => Err(self.malformed()),
+            Err(error) => Ok(Err(error)),
+        }
+    }
+
+    /// The progress or the error.
+    pub(crate) fn result(self) -> Result<Progress, Error> {
+        self.decode().unwrap_or_else(|malformed| malformed.fail())
+    }
+
+    /// The count of rows or the error, of a close.
+    pub(crate) fn closed(self) -> Result<usize, Error> {
+        let decoded = self.decode_closed();
+        decoded.unwrap_or_else(|malformed| malformed.fail())
+    }
+
+    fn malformed(self) -> Malformed {
+        let numbers = [u64::from(self.progress), self.first, self.second];
+        Malformed::new(self.code, &numbers)
+    }
+}
+
 impl Malformed {
     /// The reply with these numbers, and zeros behind them.
     pub(crate) fn new(code: u32, first: &[u64]) -> Malformed {
@@ -209,7 +265,7 @@ mod tests {
             input: Input::Output,
         };
         assert_eq!(reply(16, &[9, 8]).decode(), Ok(Err(error)));
-        for (code, first) in [(21, [9, 8, 0]), (16, [9, 21, 0]), (16, [9, 8, 1])] {
+        for (code, first) in [(21, [9, 8, 0]), (16, [9, 22, 0]), (16, [9, 8, 1])] {
             let malformed = Malformed::new(code, &first);
             assert_eq!(reply(code, &first).decode(), Err(malformed));
         }
@@ -259,10 +315,68 @@ mod tests {
             decode(0, 1, 0, &made),
             decode(0, 0, 2, &made),
             decode(18, 0, 2, &made),
-            decode(18, 0, 21, &Plan::BLANK),
+            decode(18, 0, 22, &Plan::BLANK),
             decode(21, 0, 2, &Plan::BLANK),
         ] {
             assert!(wrong.is_err(), "{wrong:?}");
         }
+    }
+
+    #[test]
+    fn the_reply_of_a_reader_is_laid_out_as_in_the_header() {
+        assert_eq!(size_of::<FedReply>(), 24);
+        let places = [
+            offset_of!(FedReply, progress),
+            offset_of!(FedReply, first),
+            offset_of!(FedReply, second),
+        ];
+        assert_eq!(places, [4, 8, 16]);
+    }
+
+    fn fed(code: u32, progress: u32, first: u64, second: u64) -> FedReply {
+        FedReply {
+            code,
+            progress,
+            first,
+            second,
+        }
+    }
+
+    #[test]
+    fn a_reader_is_going_or_complete_or_refuses() {
+        assert_eq!(fed(0, 1, 9, 0).decode(), Ok(Ok(Progress::Going(9))));
+        assert_eq!(fed(0, 2, 9, 0).decode(), Ok(Ok(Progress::Complete(9))));
+        let error = Error {
+            kind: ErrorKind::Trailing,
+            offset: 9,
+            input: Input::Section,
+        };
+        assert_eq!(fed(15, 0, 9, 6).decode(), Ok(Err(error)));
+        for wrong in [
+            fed(0, 0, 9, 0),
+            fed(0, 3, 9, 0),
+            fed(0, 1, 9, 6),
+            fed(0, 2, 9, 6),
+            fed(15, 1, 9, 6),
+            fed(15, 2, 9, 6),
+            fed(15, 0, 9, 22),
+            fed(21, 0, 9, 6),
+        ] {
+            let numbers = [u64::from(wrong.progress), wrong.first, wrong.second];
+            let malformed = Malformed::new(wrong.code, &numbers);
+            assert_eq!(wrong.decode(), Err(malformed.clone()));
+            assert_eq!(wrong.decode_closed(), Err(malformed));
+        }
+        // What is closed goes no further.
+        assert_eq!(fed(0, 2, 9, 0).decode_closed(), Ok(Ok(9)));
+        assert_eq!(fed(15, 0, 9, 6).decode_closed(), Ok(Err(error)));
+        let malformed = Malformed::new(0, &[1, 9]);
+        assert_eq!(fed(0, 1, 9, 0).decode_closed(), Err(malformed));
+    }
+
+    #[test]
+    #[should_panic(expected = "a reply without a meaning: 0 [1, 9, 0,")]
+    fn a_close_that_goes_on_is_no_answer() {
+        let _ = fed(0, 1, 9, 0).closed();
     }
 }

@@ -59,7 +59,7 @@ head-said-requires : tie.Need-head-said-requires Inv-loop μ-loop Inv-section μ
 head-said-requires c κs =
     let pre = c .before .before .before .before .before .before .pre in
     let section = c .before .before .section in
-    (pre .0 .sound, section .inv .0 .nested, pre .0 .sized, section .inv .1)
+    (pre .0 .sound .all, section .inv .0 .nested, pre .0 .sized, section .inv .1)
 
 head-at-requires : tie.Need-head-at-requires Inv-loop μ-loop Inv-section μ-section
 head-at-requires c κs =
@@ -171,7 +171,7 @@ sub-note-2 c =
     let head-said = c .before .before .before .head-said in
     let quick-end = c .before .before .quick-end in
     let if2 = c .before .if2 in
-    omega (arith, data-end _ _ _ _ _ _ _ _ _ _ (section .inv .0) (scan-ahead _ _ _ _ _ _ _ _ _ _ (section .inv .0) (head-said .result .kind) (head-said .result .number) ((head-said .ensures (λ z. if2 .left (quick-end .ensures .0 z))) .id) (head-said .result .start) (pre .0 .sound .top) (λ x. shared-slice-known2 .given x .fits) ((head-said .ensures (λ z. if2 .left (quick-end .ensures .0 z))) .head)) _ (said-end (quick-end .ensures .1 _ (pre .0 .shaped _ (ahead-number _ _ _ _ _ _ _ _ _ _ (section .inv .0) (scan-ahead _ _ _ _ _ _ _ _ _ _ (section .inv .0) (head-said .result .kind) (head-said .result .number) ((head-said .ensures (λ z. if2 .left (quick-end .ensures .0 z))) .id) (head-said .result .start) (pre .0 .sound .top) (λ x. shared-slice-known2 .given x .fits) ((head-said .ensures (λ z. if2 .left (quick-end .ensures .0 z))) .head))))) (if2 .left)))
+    omega (arith, data-end _ _ _ _ _ _ _ _ _ _ (section .inv .0) (scan-ahead _ _ _ _ _ _ _ _ _ _ (section .inv .0) (head-said .result .kind) (head-said .result .number) ((head-said .ensures .says (pre .0 .sound) (λ z. if2 .left (quick-end .ensures .0 z))) .id) (head-said .result .start) (pre .0 .sound .top) (λ x. shared-slice-known2 .given x .fits) ((head-said .ensures .says (pre .0 .sound) (λ z. if2 .left (quick-end .ensures .0 z))) .head)) _ (said-end (quick-end .ensures .1 _ (pre .0 .shaped _ (ahead-number _ _ _ _ _ _ _ _ _ _ (section .inv .0) (scan-ahead _ _ _ _ _ _ _ _ _ _ (section .inv .0) (head-said .result .kind) (head-said .result .number) ((head-said .ensures .says (pre .0 .sound) (λ z. if2 .left (quick-end .ensures .0 z))) .id) (head-said .result .start) (pre .0 .sound .top) (λ x. shared-slice-known2 .given x .fits) ((head-said .ensures .says (pre .0 .sound) (λ z. if2 .left (quick-end .ensures .0 z))) .head))))) (if2 .left)))
 
 shared-slice-read-is-stepped-2 : tie.Need-shared-slice-read-is-stepped-2 Inv-loop μ-loop Inv-section μ-section
 shared-slice-read-is-stepped-2 c =
@@ -181,7 +181,7 @@ shared-slice-read-is-stepped-2 c =
     let head-said = c .before .before .before .before .head-said in
     let quick-end = c .before .before .before .quick-end in
     let if2 = c .before .before .if2 in
-    ahead-inside _ _ _ _ _ _ _ _ _ _ (section .inv .0) (scan-ahead _ _ _ _ _ _ _ _ _ _ (section .inv .0) (head-said .result .kind) (head-said .result .number) ((head-said .ensures (λ z. if2 .left (quick-end .ensures .0 z))) .id) (head-said .result .start) (pre .0 .sound .top) (λ x. shared-slice-known2 .given x .fits) ((head-said .ensures (λ z. if2 .left (quick-end .ensures .0 z))) .head))
+    ahead-inside _ _ _ _ _ _ _ _ _ _ (section .inv .0) (scan-ahead _ _ _ _ _ _ _ _ _ _ (section .inv .0) (head-said .result .kind) (head-said .result .number) ((head-said .ensures .says (pre .0 .sound) (λ z. if2 .left (quick-end .ensures .0 z))) .id) (head-said .result .start) (pre .0 .sound .top) (λ x. shared-slice-known2 .given x .fits) ((head-said .ensures .says (pre .0 .sound) (λ z. if2 .left (quick-end .ensures .0 z))) .head))
 
 note-requires-3 : tie.Need-note-requires-3 Inv-loop μ-loop Inv-section μ-section
 note-requires-3 c κs =
@@ -197,7 +197,7 @@ section-less-4 c =
     let head-said = c .before .before .before .before .before .before .before .before .before .before .head-said in
     let quick-end = c .before .before .before .before .before .before .before .before .before .quick-end in
     let if2 = c .before .before .before .before .before .before .before .before .if2 in
-    omega (arith, data-end _ _ _ _ _ _ _ _ _ _ (section .inv .0) (scan-ahead _ _ _ _ _ _ _ _ _ _ (section .inv .0) (head-said .result .kind) (head-said .result .number) ((head-said .ensures (λ z. if2 .left (quick-end .ensures .0 z))) .id) (head-said .result .start) (pre .0 .sound .top) (λ x. shared-slice-known2 .given x .fits) ((head-said .ensures (λ z. if2 .left (quick-end .ensures .0 z))) .head)) _ (said-end (quick-end .ensures .1 _ (pre .0 .shaped _ (ahead-number _ _ _ _ _ _ _ _ _ _ (section .inv .0) (scan-ahead _ _ _ _ _ _ _ _ _ _ (section .inv .0) (head-said .result .kind) (head-said .result .number) ((head-said .ensures (λ z. if2 .left (quick-end .ensures .0 z))) .id) (head-said .result .start) (pre .0 .sound .top) (λ x. shared-slice-known2 .given x .fits) ((head-said .ensures (λ z. if2 .left (quick-end .ensures .0 z))) .head))))) (if2 .left)))
+    omega (arith, data-end _ _ _ _ _ _ _ _ _ _ (section .inv .0) (scan-ahead _ _ _ _ _ _ _ _ _ _ (section .inv .0) (head-said .result .kind) (head-said .result .number) ((head-said .ensures .says (pre .0 .sound) (λ z. if2 .left (quick-end .ensures .0 z))) .id) (head-said .result .start) (pre .0 .sound .top) (λ x. shared-slice-known2 .given x .fits) ((head-said .ensures .says (pre .0 .sound) (λ z. if2 .left (quick-end .ensures .0 z))) .head)) _ (said-end (quick-end .ensures .1 _ (pre .0 .shaped _ (ahead-number _ _ _ _ _ _ _ _ _ _ (section .inv .0) (scan-ahead _ _ _ _ _ _ _ _ _ _ (section .inv .0) (head-said .result .kind) (head-said .result .number) ((head-said .ensures .says (pre .0 .sound) (λ z. if2 .left (quick-end .ensures .0 z))) .id) (head-said .result .start) (pre .0 .sound .top) (λ x. shared-slice-known2 .given x .fits) ((head-said .ensures .says (pre .0 .sound) (λ z. if2 .left (quick-end .ensures .0 z))) .head))))) (if2 .left)))
 
 section-again-4 : tie.Need-section-again-4 Inv-loop μ-loop Inv-section μ-section
 section-again-4 c =
@@ -209,7 +209,7 @@ section-again-4 c =
     let if2 = c .before .before .before .before .before .before .before .before .if2 in
     let is-stepped2 = c .before .before .before .before .before .is-stepped2 in
     let note3 = c .before .before .before .before .note3 in
-    (scan-change-ended _ _ _ _ _ _ _ _ _ _ (section .inv .0) (scan-ahead _ _ _ _ _ _ _ _ _ _ (section .inv .0) (head-said .result .kind) (head-said .result .number) ((head-said .ensures (λ z. if2 .left (quick-end .ensures .0 z))) .id) (head-said .result .start) (pre .0 .sound .top) (λ x. shared-slice-known2 .given x .fits) ((head-said .ensures (λ z. if2 .left (quick-end .ensures .0 z))) .head)) _ (said-end (quick-end .ensures .1 _ (pre .0 .shaped _ (ahead-number _ _ _ _ _ _ _ _ _ _ (section .inv .0) (scan-ahead _ _ _ _ _ _ _ _ _ _ (section .inv .0) (head-said .result .kind) (head-said .result .number) ((head-said .ensures (λ z. if2 .left (quick-end .ensures .0 z))) .id) (head-said .result .start) (pre .0 .sound .top) (λ x. shared-slice-known2 .given x .fits) ((head-said .ensures (λ z. if2 .left (quick-end .ensures .0 z))) .head))))) (if2 .left)) _ _ (rw (is-stepped2 .ensures) at (note3 .ensures)) (eq-eqb _ _ (c .if4 .taken)), section .inv .1)
+    (scan-change-ended _ _ _ _ _ _ _ _ _ _ (section .inv .0) (scan-ahead _ _ _ _ _ _ _ _ _ _ (section .inv .0) (head-said .result .kind) (head-said .result .number) ((head-said .ensures .says (pre .0 .sound) (λ z. if2 .left (quick-end .ensures .0 z))) .id) (head-said .result .start) (pre .0 .sound .top) (λ x. shared-slice-known2 .given x .fits) ((head-said .ensures .says (pre .0 .sound) (λ z. if2 .left (quick-end .ensures .0 z))) .head)) _ (said-end (quick-end .ensures .1 _ (pre .0 .shaped _ (ahead-number _ _ _ _ _ _ _ _ _ _ (section .inv .0) (scan-ahead _ _ _ _ _ _ _ _ _ _ (section .inv .0) (head-said .result .kind) (head-said .result .number) ((head-said .ensures .says (pre .0 .sound) (λ z. if2 .left (quick-end .ensures .0 z))) .id) (head-said .result .start) (pre .0 .sound .top) (λ x. shared-slice-known2 .given x .fits) ((head-said .ensures .says (pre .0 .sound) (λ z. if2 .left (quick-end .ensures .0 z))) .head))))) (if2 .left)) _ _ (rw (is-stepped2 .ensures) at (note3 .ensures)) (eq-eqb _ _ (c .if4 .taken)), section .inv .1)
 
 add-rows-2 : tie.Need-add-rows-2 Inv-loop μ-loop Inv-section μ-section
 add-rows-2 c =
@@ -225,7 +225,7 @@ section-less-5 c =
     let head-said = c .before .before .before .before .before .before .before .before .before .before .head-said in
     let quick-end = c .before .before .before .before .before .before .before .before .before .quick-end in
     let if2 = c .before .before .before .before .before .before .before .before .if2 in
-    omega (arith, data-end _ _ _ _ _ _ _ _ _ _ (section .inv .0) (scan-ahead _ _ _ _ _ _ _ _ _ _ (section .inv .0) (head-said .result .kind) (head-said .result .number) ((head-said .ensures (λ z. if2 .left (quick-end .ensures .0 z))) .id) (head-said .result .start) (pre .0 .sound .top) (λ x. shared-slice-known2 .given x .fits) ((head-said .ensures (λ z. if2 .left (quick-end .ensures .0 z))) .head)) _ (said-end (quick-end .ensures .1 _ (pre .0 .shaped _ (ahead-number _ _ _ _ _ _ _ _ _ _ (section .inv .0) (scan-ahead _ _ _ _ _ _ _ _ _ _ (section .inv .0) (head-said .result .kind) (head-said .result .number) ((head-said .ensures (λ z. if2 .left (quick-end .ensures .0 z))) .id) (head-said .result .start) (pre .0 .sound .top) (λ x. shared-slice-known2 .given x .fits) ((head-said .ensures (λ z. if2 .left (quick-end .ensures .0 z))) .head))))) (if2 .left)))
+    omega (arith, data-end _ _ _ _ _ _ _ _ _ _ (section .inv .0) (scan-ahead _ _ _ _ _ _ _ _ _ _ (section .inv .0) (head-said .result .kind) (head-said .result .number) ((head-said .ensures .says (pre .0 .sound) (λ z. if2 .left (quick-end .ensures .0 z))) .id) (head-said .result .start) (pre .0 .sound .top) (λ x. shared-slice-known2 .given x .fits) ((head-said .ensures .says (pre .0 .sound) (λ z. if2 .left (quick-end .ensures .0 z))) .head)) _ (said-end (quick-end .ensures .1 _ (pre .0 .shaped _ (ahead-number _ _ _ _ _ _ _ _ _ _ (section .inv .0) (scan-ahead _ _ _ _ _ _ _ _ _ _ (section .inv .0) (head-said .result .kind) (head-said .result .number) ((head-said .ensures .says (pre .0 .sound) (λ z. if2 .left (quick-end .ensures .0 z))) .id) (head-said .result .start) (pre .0 .sound .top) (λ x. shared-slice-known2 .given x .fits) ((head-said .ensures .says (pre .0 .sound) (λ z. if2 .left (quick-end .ensures .0 z))) .head))))) (if2 .left)))
 
 section-again-5 : tie.Need-section-again-5 Inv-loop μ-loop Inv-section μ-section
 section-again-5 c =
@@ -237,7 +237,7 @@ section-again-5 c =
     let if2 = c .before .before .before .before .before .before .before .before .if2 in
     let is-stepped2 = c .before .before .before .before .before .is-stepped2 in
     let note3 = c .before .before .before .before .note3 in
-    (scan-row-ended _ _ _ _ _ _ _ _ _ _ (section .inv .0) (scan-ahead _ _ _ _ _ _ _ _ _ _ (section .inv .0) (head-said .result .kind) (head-said .result .number) ((head-said .ensures (λ z. if2 .left (quick-end .ensures .0 z))) .id) (head-said .result .start) (pre .0 .sound .top) (λ x. shared-slice-known2 .given x .fits) ((head-said .ensures (λ z. if2 .left (quick-end .ensures .0 z))) .head)) _ (said-end (quick-end .ensures .1 _ (pre .0 .shaped _ (ahead-number _ _ _ _ _ _ _ _ _ _ (section .inv .0) (scan-ahead _ _ _ _ _ _ _ _ _ _ (section .inv .0) (head-said .result .kind) (head-said .result .number) ((head-said .ensures (λ z. if2 .left (quick-end .ensures .0 z))) .id) (head-said .result .start) (pre .0 .sound .top) (λ x. shared-slice-known2 .given x .fits) ((head-said .ensures (λ z. if2 .left (quick-end .ensures .0 z))) .head))))) (if2 .left)) _ _ (rw (is-stepped2 .ensures) at (note3 .ensures)) (ne-eqb _ _ (c .if4 .left)), ahead-number _ _ _ _ _ _ _ _ _ _ (section .inv .0) (scan-ahead _ _ _ _ _ _ _ _ _ _ (section .inv .0) (head-said .result .kind) (head-said .result .number) ((head-said .ensures (λ z. if2 .left (quick-end .ensures .0 z))) .id) (head-said .result .start) (pre .0 .sound .top) (λ x. shared-slice-known2 .given x .fits) ((head-said .ensures (λ z. if2 .left (quick-end .ensures .0 z))) .head)))
+    (scan-row-ended _ _ _ _ _ _ _ _ _ _ (section .inv .0) (scan-ahead _ _ _ _ _ _ _ _ _ _ (section .inv .0) (head-said .result .kind) (head-said .result .number) ((head-said .ensures .says (pre .0 .sound) (λ z. if2 .left (quick-end .ensures .0 z))) .id) (head-said .result .start) (pre .0 .sound .top) (λ x. shared-slice-known2 .given x .fits) ((head-said .ensures .says (pre .0 .sound) (λ z. if2 .left (quick-end .ensures .0 z))) .head)) _ (said-end (quick-end .ensures .1 _ (pre .0 .shaped _ (ahead-number _ _ _ _ _ _ _ _ _ _ (section .inv .0) (scan-ahead _ _ _ _ _ _ _ _ _ _ (section .inv .0) (head-said .result .kind) (head-said .result .number) ((head-said .ensures .says (pre .0 .sound) (λ z. if2 .left (quick-end .ensures .0 z))) .id) (head-said .result .start) (pre .0 .sound .top) (λ x. shared-slice-known2 .given x .fits) ((head-said .ensures .says (pre .0 .sound) (λ z. if2 .left (quick-end .ensures .0 z))) .head))))) (if2 .left)) _ _ (rw (is-stepped2 .ensures) at (note3 .ensures)) (ne-eqb _ _ (c .if4 .left)), ahead-number _ _ _ _ _ _ _ _ _ _ (section .inv .0) (scan-ahead _ _ _ _ _ _ _ _ _ _ (section .inv .0) (head-said .result .kind) (head-said .result .number) ((head-said .ensures .says (pre .0 .sound) (λ z. if2 .left (quick-end .ensures .0 z))) .id) (head-said .result .start) (pre .0 .sound .top) (λ x. shared-slice-known2 .given x .fits) ((head-said .ensures .says (pre .0 .sound) (λ z. if2 .left (quick-end .ensures .0 z))) .head)))
 
 add-rows-3 : tie.Need-add-rows-3 Inv-loop μ-loop Inv-section μ-section
 add-rows-3 c =

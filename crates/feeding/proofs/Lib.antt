@@ -1,0 +1,10 @@
+pub mod Maps
+pub mod Left
+pub mod Fed
+pub mod Prefixes
+pub mod Fits
+pub mod Counts
+pub mod Elements
+pub mod Theorem
+pub mod Bulk
+pub mod Codes

@@ -1,0 +1,4 @@
+pub mod Answers
+pub mod Feeding
+-- Inner.
+pub mod Machine

@@ -1,0 +1,312 @@
+-- The fields of row data in progress: what passes a column, what a column's field leads to, and the columns in their slots.
+-- Assumes nothing.
+use Prim.Native.Nat.{ℕ, zero, suc, _+_, _-_, _≤_, _<_, max, min}
+use mathlib.Core.List.{List, [], _∷_, map}
+use mathlib.Core.Bool.{Bool, true, false}
+use mathlib.Core.Option.{Option, none, some}
+use mathlib.Core.Path.{_≡_, refl, sym, ap, _∙_}
+use native.Mathlib.Omega.{arith}
+use lib.ListN.{length, getD, drop, drop-of-length-le}
+use lib.Seq.{drop-cons}
+use lib.Dec.{eqb, leb, ltb}
+use borrow.Author.Tests.{eq-eqb, ne-eqb, leb-true, leb-false, le-leb, ltb-true, ltb-false}
+use Rattle.wire.specs.Read.{Bytes, pick}
+use Rattle.wire.specs.Bits.{mapBytes}
+use Rattle.column.specs.declared.column.Column.{Column}
+use Rattle.column.specs.Columns.{isVariable, isNullable, width, prefixSize}
+use Rattle.walk.specs.Presence.{noColumn, one, bitOf, Mark, noMark, mark, present}
+use Rattle.walk.specs.Updates.{updateBytes, carried, carriedIn}
+use Rattle.walk.specs.Data.{dataHas, dataMarks}
+use Rattle.walk.proofs.Laws.{mark-at, bit-zero}
+use Rattle.walk.proofs.UpdateLaws.{number-at}
+use Rattle.walk.proofs.Data.{data-column}
+use Rattle.tree.specs.Schemas.{Schema, asColumn, childNumber, or0}
+use Rattle.tree.specs.Table.{schemaSlot, startIn, countIn, schemasIn, entryIn, entriesIn}
+use Rattle.tree.proofs.TableSays.{schemas-in-length}
+use Rattle.tree.proofs.Children.{child-found}
+use Rattle.shapes.specs.Shapes.{Sound, slotColumns}
+use Rattle.shapes.proofs.Slots.{inSlots, length-slots, slot-at, slot-bit}
+use Rattle.section.proofs.Scanning.{columns-at}
+use Rattle.feeding.specs.Machine.{Kind, parentRow, childRow, changeRow, isUpdate, columnsFor, columnFor, marksFor, hasFor, behind, adds, prefix, State, between, keep, skip, bodyOf, seek, seekFrom}
+use Rattle.feeding.proofs.Left.{marks-length}
+use Rattle.incremental.specs.declared.fields.Block.{Block}
+use Rattle.incremental.specs.Record.{kindBy}
+use Rattle.incremental.specs.Steps.{numberFor, Columns, NextField}
+
+false-true : false ≡ true → ⊥
+false-true e = let z : _≡_ {A = ℕ} 0 1 = cc in omega arith
+
+pub prefix-few : (c : Column) → prefixSize c ≤ 4
+unfolding prefixSize
+prefix-few c = go (ltb (c .maximum) 256)
+  where
+    go : (t : Bool) → pick t 1 4 ≤ 4
+    go true = omega arith
+    go false = omega arith
+
+-- One column.
+module _ (S : List Schema) (n at : ℕ) (k : Kind) (bits : Bytes) (j : ℕ) where
+  module _ (h : j < length (columnsFor S k)) where
+    seek-step :
+        seekFrom S n at k bits j
+        ≡ pick (hasFor S k bits (getD (marksFor S k) j noMark))
+        (pick (isVariable (columnFor S k j)) (keep n at [] (prefixSize (columnFor S k j) - 1) (prefix k bits j))
+        (bodyOf n at (width (columnFor S k j)) k bits (suc j) (seekFrom S n (at + width (columnFor S k j)) k bits (suc j))))
+        (seekFrom S n at k bits (suc j))
+    unfolding seek
+    seek-step =
+        let l : j < length (marksFor S k) = omega (arith, marks-length (isUpdate k) (columnsFor S k)) in
+        let e : drop j (marksFor S k) ≡ getD (marksFor S k) j noMark ∷ drop (suc j) (marksFor S k) = drop-cons (marksFor S k) j noMark l in
+        let c : getD (marksFor S k) j noMark .column ≡ columnFor S k j = data-column (isUpdate k) (columnsFor S k) j h in
+        ap (seek S n at k bits j) e ∙ rw c
+
+    pub seek-none : hasFor S k bits (getD (marksFor S k) j noMark) ≡ false → seekFrom S n at k bits j ≡ seekFrom S n at k bits (suc j)
+    seek-none e = seek-step ∙ rw e
+
+    module _ (e : hasFor S k bits (getD (marksFor S k) j noMark) ≡ true) where
+      pub seek-empty :
+          isVariable (columnFor S k j) ≡ false → width (columnFor S k j) ≡ 0 → seekFrom S n at k bits j ≡ seekFrom S n at k bits (suc j)
+      seek-empty v w =
+          let z : at + 0 ≡ at = omega arith in
+          seek-step ∙ rw (e, v, w) (ap (λ (x : ℕ). seekFrom S n x k bits (suc j)) z)
+
+      pub seek-prefix :
+          isVariable (columnFor S k j) ≡ true → seekFrom S n at k bits j ≡ keep n at [] (prefixSize (columnFor S k j) - 1) (prefix k bits j)
+      seek-prefix v = seek-step ∙ rw (e, v)
+
+      pub seek-body :
+          isVariable (columnFor S k j) ≡ false → 0 < width (columnFor S k j) →
+          seekFrom S n at k bits j ≡ skip n at (width (columnFor S k j) - 1) k bits (suc j)
+      seek-body v w = seek-step ∙ rw (e, v) (go (width (columnFor S k j)) w (seekFrom S n (at + width (columnFor S k j)) k bits (suc j)))
+        where
+          go : (x : ℕ) → 0 < x → (st : State) → bodyOf n at x k bits (suc j) st ≡ skip n at (x - 1) k bits (suc j)
+          go zero l st = absurd (omega arith)
+          go (suc x) l st = let z : x ≡ suc x - 1 = omega arith in ap (λ (y : ℕ). skip n at y k bits (suc j)) z
+
+  pub seek-past : length (columnsFor S k) ≤ j → seekFrom S n at k bits j ≡ between (n + adds k) at (behind k)
+  unfolding seek
+  seek-past h =
+      let l : length (marksFor S k) ≤ j = omega (arith, marks-length (isUpdate k) (columnsFor S k)) in
+      let e : drop j (marksFor S k) ≡ [] = drop-of-length-le (marksFor S k) l in
+      ap (seek S n at k bits j) e
+
+-- Whether a column has a field, as code asks.
+drop-least : (s : Bytes) (a half : ℕ) → half ≡ min a (length s) → drop half s ≡ drop a s
+drop-least s a half e = go (leb a (length s)) refl
+  where
+    go : (t : Bool) → leb a (length s) ≡ t → drop half s ≡ drop a s
+    go true h = let l : a ≤ length s = leb-true _ _ h in let z : half ≡ a = omega arith in ap (λ (x : ℕ). drop x s) z
+    go false h =
+        let l : length s < a = leb-false _ _ h in
+        let f : length s ≤ half = omega arith in
+        let g : length s ≤ a = omega arith in
+        drop-of-length-le s f ∙ sym (drop-of-length-le s g)
+
+pub has-told :
+    (u : Bool) (cs : List Column) (bits : Bytes) (i bit half : ℕ) (c : Column) → i < length cs → c ≡ getD cs i noColumn → bit ≡ bitOf cs i →
+    half ≡ min (updateBytes cs) (length bits) →
+    pick u (carried bits (drop half bits) (mark c i)) (present bits (mark c bit)) ≡ dataHas u cs bits 0 (getD (dataMarks u cs) i noMark)
+unfolding carriedIn
+has-told true cs bits i bit half c h e b l =
+    let z : 0 + updateBytes cs ≡ updateBytes cs = omega arith in
+    rw (number-at cs i h, e, drop-least bits (updateBytes cs) half l, z)
+has-told false cs bits i bit half c h e b l = rw (mark-at cs i h, e, b)
+
+-- The loop over the columns: nothing has moved up to column i.
+pub record Looking (u : Bool) (cs : List Column) (bits : Bytes) (j i bit : ℕ) : Type 0 where
+  pub below : i ≤ length cs
+  pub counted : bit ≡ bitOf cs i
+  pub few : bit ≤ i
+  pub passes : (S : List Schema) (n at : ℕ) (k : Kind) → columnsFor S k ≡ cs → isUpdate k ≡ u → seekFrom S n at k bits j ≡ seekFrom S n at k bits (max i j)
+
+module _ (u : Bool) (cs : List Column) (bits : Bytes) (j : ℕ) where
+  pub looking-start : Looking u cs bits j 0 0
+  looking-start =
+      let z : max 0 j ≡ j = omega arith in
+      record {
+        below = omega arith;
+        counted = sym (bit-zero cs);
+        few = omega arith;
+        passes = λ S n at k e f. ap (seekFrom S n at k bits) (sym z);
+      }
+
+  module _ {i bit : ℕ} (w : Looking u cs bits j i bit) (h : i < length cs) (bit′ : ℕ) (e : (bit′ ≡ bitOf cs (i + 1)) × (bit′ ≤ i + 1)) where
+    -- a column before the one that is asked for
+    pub looking-before : i < j → Looking u cs bits j (i + 1) bit′
+    looking-before l =
+        let z : max i j ≡ max (i + 1) j = omega arith in
+        record {
+          below = omega arith;
+          counted = e .0;
+          few = e .1;
+          passes = λ S n at k p q. w .passes S n at k p q ∙ ap (seekFrom S n at k bits) z;
+        }
+
+    looking-past :
+        j ≤ i → ((S : List Schema) (n at : ℕ) (k : Kind) → columnsFor S k ≡ cs → isUpdate k ≡ u → seekFrom S n at k bits i ≡ seekFrom S n at k bits (suc i)) →
+        Looking u cs bits j (i + 1) bit′
+    looking-past l g =
+        let y : max i j ≡ i = omega arith in
+        let z : suc i ≡ max (i + 1) j = omega arith in
+        record {
+          below = omega arith;
+          counted = e .0;
+          few = e .1;
+          passes = λ S n at k p q. w .passes S n at k p q ∙ ap (seekFrom S n at k bits) y ∙ g S n at k p q ∙ ap (seekFrom S n at k bits) z;
+        }
+
+    -- one without a field
+    pub looking-none : j ≤ i → dataHas u cs bits 0 (getD (dataMarks u cs) i noMark) ≡ false → Looking u cs bits j (i + 1) bit′
+    looking-none l t =
+        looking-past l
+        (λ S n at k p q.
+        seek-none S n at k bits i (rw p h)
+        (rw (p, q) t))
+
+    -- one whose field has no bytes
+    pub looking-empty :
+        j ≤ i → dataHas u cs bits 0 (getD (dataMarks u cs) i noMark) ≡ true → isVariable (getD cs i noColumn) ≡ false → width (getD cs i noColumn) ≡ 0 →
+        Looking u cs bits j (i + 1) bit′
+    looking-empty l t v x =
+        looking-past l
+        (λ S n at k p q. seek-empty S n at k bits i (rw p h) (rw (p, q) t) (rw p v) (rw p x))
+
+  -- the field that is found
+  pub looking-found :
+      {i bit : ℕ} → Looking u cs bits j i bit → i < length cs → j ≤ i → dataHas u cs bits 0 (getD (dataMarks u cs) i noMark) ≡ true →
+      (isVariable (getD cs i noColumn) ≡ false → 0 < width (getD cs i noColumn)) → NextField u cs bits j i
+  looking-found {i} w h l t x =
+      let y : max i j ≡ i = omega arith in
+      record {
+        passes = λ S n at k p q. w .passes S n at k p q ∙ ap (seekFrom S n at k bits) y;
+        most = omega arith;
+        has = λ _. t;
+        sized = λ _. x;
+      }
+
+  -- none is
+  pub looking-end : {i bit : ℕ} → Looking u cs bits j i bit → (c : ℕ) → c ≡ length cs → c ≤ i → NextField u cs bits j c
+  looking-end {i} w c z l =
+      record {
+        passes = λ S n at k p q.
+            w .passes S n at k p q
+            ∙ seek-past S n at k bits (max i j) (rw p (omega arith))
+            ∙ sym (seek-past S n at k bits c (rw p (omega arith)));
+        most = omega arith;
+        has = λ g. absurd (omega arith);
+        sized = λ g. absurd (omega arith);
+      }
+
+-- What the test of one column says.
+module _ (u : Bool) (cs : List Column) (bits : Bytes) (j : ℕ) {i bit : ℕ} (w : Looking u cs bits j i bit) (h : i < length cs) (half : ℕ) (l : half ≡ min (updateBytes cs) (length bits)) (c : Column) (e : c ≡ getD cs i noColumn) (r : Bool)
+    (f : r ≡ pick (ltb i j) false (pick (pick u (carried bits (drop half bits) (mark c i)) (present bits (mark c bit))) (pick (isVariable c) true (ltb 0 (width c))) false)) where
+  has-here : pick u (carried bits (drop half bits) (mark c i)) (present bits (mark c bit)) ≡ dataHas u cs bits 0 (getD (dataMarks u cs) i noMark)
+  has-here = has-told u cs bits i bit half c h e (w .counted) l
+
+  asked : r ≡ pick (ltb i j) false (pick (dataHas u cs bits 0 (getD (dataMarks u cs) i noMark)) (pick (isVariable (getD cs i noColumn)) true (ltb 0 (width (getD cs i noColumn)))) false)
+  asked = f ∙ rw (has-here, e)
+
+  pub asked-found : r ≡ true → NextField u cs bits j i
+  asked-found t =
+      go (ltb i j) (dataHas u cs bits 0 (getD (dataMarks u cs) i noMark)) (isVariable (getD cs i noColumn)) (ltb 0 (width (getD cs i noColumn))) refl refl refl refl (sym asked ∙ t)
+    where
+      go :
+          (a b v x : Bool) → ltb i j ≡ a → dataHas u cs bits 0 (getD (dataMarks u cs) i noMark) ≡ b → isVariable (getD cs i noColumn) ≡ v → ltb 0 (width (getD cs i noColumn)) ≡ x →
+          pick a false (pick b (pick v true x) false) ≡ true → NextField u cs bits j i
+      go true b v x p q y z k = absurd (false-true k)
+      go false false v x p q y z k = absurd (false-true k)
+      go false true true x p q y z k = looking-found u cs bits j w h (ltb-false _ _ p) q (λ n. absurd (false-true (sym n ∙ y)))
+      go false true false true p q y z k = looking-found u cs bits j w h (ltb-false _ _ p) q (λ _. ltb-true _ _ z)
+      go false true false false p q y z k = absurd (false-true k)
+
+  pub asked-next : r ≡ false → (bit′ : ℕ) → (bit′ ≡ bitOf cs (i + 1)) × (bit′ ≤ i + 1) → Looking u cs bits j (i + 1) bit′
+  asked-next t bit′ n =
+      go (ltb i j) (dataHas u cs bits 0 (getD (dataMarks u cs) i noMark)) (isVariable (getD cs i noColumn)) (ltb 0 (width (getD cs i noColumn))) refl refl refl refl (sym asked ∙ t)
+    where
+      go :
+          (a b v x : Bool) → ltb i j ≡ a → dataHas u cs bits 0 (getD (dataMarks u cs) i noMark) ≡ b → isVariable (getD cs i noColumn) ≡ v → ltb 0 (width (getD cs i noColumn)) ≡ x →
+          pick a false (pick b (pick v true x) false) ≡ false → Looking u cs bits j (i + 1) bit′
+      go true b v x p q y z k = looking-before u cs bits j w h bit′ n (ltb-true _ _ p)
+      go false false v x p q y z k = looking-none u cs bits j w h bit′ n (ltb-false _ _ p) q
+      go false true true x p q y z k = absurd (false-true (sym k))
+      go false true false true p q y z k = absurd (false-true (sym k))
+      go false true false false p q y z k =
+          let o : width (getD cs i noColumn) ≤ 0 = ltb-false _ _ z in
+          looking-empty u cs bits j w h bit′ n (ltb-false _ _ p) q y (omega arith)
+
+-- where the force-null map starts
+pub half-told :
+    (slots : List ℕ) (first count : ℕ) (bits : Bytes) {half size : ℕ} → half ≡ min size (length bits) → size ≡ mapBytes count →
+    half ≡ min (updateBytes (inSlots slots first count)) (length bits)
+unfolding updateBytes
+half-told slots first count bits e f = e ∙ rw (f, length-slots slots first count)
+
+-- The state at the column that was found.
+module _ (S : List Schema) (n at : ℕ) (k : Kind) (bits : Bytes) {u : Bool} {cs : List Column} {j i : ℕ} (f : NextField u cs bits j i) (p : columnsFor S k ≡ cs) (q : isUpdate k ≡ u) where
+  pub found-field :
+      i < length cs → (c : Column) → c ≡ getD cs i noColumn →
+      seekFrom S n at k bits j ≡ pick (isVariable c) (keep n at [] (prefixSize c - 1) (prefix k bits i)) (skip n at (width c - 1) k bits (suc i))
+  found-field h c e = f .passes S n at k p q ∙ go (isVariable c) refl
+    where
+      l : i < length (columnsFor S k)
+      l = rw p h
+
+      has : hasFor S k bits (getD (marksFor S k) i noMark) ≡ true
+      has = rw (p, q) (f .has h)
+
+      same : columnFor S k i ≡ c
+      same = rw p (sym e)
+
+      go : (v : Bool) → isVariable c ≡ v → seekFrom S n at k bits i ≡ pick v (keep n at [] (prefixSize c - 1) (prefix k bits i)) (skip n at (width c - 1) k bits (suc i))
+      go true v = seek-prefix S n at k bits i l has (ap isVariable same ∙ v) ∙ ap (λ (x : Column). keep n at [] (prefixSize x - 1) (prefix k bits i)) same
+      go false v =
+          let w : 0 < width (getD cs i noColumn) = f .sized h (ap isVariable (sym e) ∙ v) in
+          let y : width (columnFor S k i) ≡ width (getD cs i noColumn) = ap width (same ∙ e) in
+          seek-body S n at k bits i l has (ap isVariable same ∙ v) (omega arith) ∙ ap (λ (x : Column). skip n at (width x - 1) k bits (suc i)) same
+
+  pub found-none : length cs ≤ i → seekFrom S n at k bits j ≡ between (n + adds k) at (behind k)
+  found-none h = f .passes S n at k p q ∙ seek-past S n at k bits i (rw p h)
+
+-- The columns of row data stand in the slots of their schema.
+or-low : (ss : List Schema) (id : ℕ) → 1 ≤ length ss → or0 (childNumber ss id) < length ss
+or-low ss id top = go (childNumber ss id) refl
+  where
+    go : (o : Option ℕ) → childNumber ss id ≡ o → or0 o < length ss
+    go none e = omega (arith, top)
+    go (some k) e = child-found ss id k e .1
+
+module _ (slots : List ℕ) (n : ℕ) (sound : Sound slots n) where
+  pub number-low : (id : ℕ) → or0 (childNumber (schemasIn 0 n slots) id) < n
+  number-low id = let z = schemas-in-length 0 n slots in omega (arith, or-low (schemasIn 0 n slots) id (omega (arith, sound .top)))
+
+  pub number-few : (id : ℕ) → or0 (childNumber (schemasIn 0 n slots) id) < 256
+  number-few id = omega (arith, number-low id, sound .all)
+
+  at-number :
+      (k : ℕ) (b : Block) → k < n → b .first ≡ startIn (getD slots (schemaSlot k) 0) → b .count ≡ countIn (getD slots (schemaSlot k) 0) →
+      Columns slots (slotColumns slots k) b
+  at-number k b h e f =
+      record {
+        are = rw (e, f);
+        few = omega (arith, sound .few k h);
+        inside = omega (arith, sound .inside k h);
+      }
+
+  pub block-told :
+      (kind id number : ℕ) (b : Block) → number ≡ numberFor (schemasIn 0 n slots) kind id →
+      b .first ≡ startIn (getD slots (schemaSlot number) 0) → b .count ≡ countIn (getD slots (schemaSlot number) 0) →
+      Columns slots (columnsFor (schemasIn 0 n slots) (kindBy kind id)) b
+  block-told kind id number b e f g = go (eqb kind 3) (eqb kind 2) e
+    where
+      go :
+          (t v : Bool) → number ≡ pick t (or0 (childNumber (schemasIn 0 n slots) id)) (pick v (or0 (childNumber (schemasIn 0 n slots) id)) 0) →
+          Columns slots (columnsFor (schemasIn 0 n slots) (pick t (changeRow id) (pick v (childRow id) parentRow))) b
+      go true v z =
+          rw (columns-at slots n (or0 (childNumber (schemasIn 0 n slots) id)) (number-low id))
+          (at-number (or0 (childNumber (schemasIn 0 n slots) id)) b (number-low id) (f ∙ rw z) (g ∙ rw z))
+      go false true z =
+          rw (columns-at slots n (or0 (childNumber (schemasIn 0 n slots) id)) (number-low id))
+          (at-number (or0 (childNumber (schemasIn 0 n slots) id)) b (number-low id) (f ∙ rw z) (g ∙ rw z))
+      go false false z =
+          rw (columns-at slots n 0 (omega (arith, sound .top)))
+          (at-number 0 b (omega (arith, sound .top)) (f ∙ rw z) (g ∙ rw z))

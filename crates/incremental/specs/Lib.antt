@@ -1,0 +1,5 @@
+pub mod Record
+pub mod Calls
+-- Inner.
+pub mod Steps
+pub mod Parts
