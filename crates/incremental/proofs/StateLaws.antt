@@ -64,7 +64,7 @@ module _ (r : Reader) where
   pub place-late : 6 ≤ r .stage → placeIn r ≡ r .at
   place-late h = let n : r .stage ≡ 0 → ⊥ = λ e. omega arith in rw (ne-eqb _ _ n, le-leb _ _ h)
 
--- What a kept piece is.
+  -- What a kept piece is.
   pub stage-child : r .stage ≡ 1 → stageIn r ≡ childId (r .at - 1)
   unfolding stageIn
   stage-child e = rw (eq-eqb _ _ e)

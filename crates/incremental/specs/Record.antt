@@ -119,7 +119,7 @@ numbers stage code kind id paired rows at more column input held map =
       filled = length held;
       mapped = length map;
       held = sixteen held;
-      map = sixteen map
+      map = sixteen map;
     }
 
 -- of a piece

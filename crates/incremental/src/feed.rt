@@ -18,6 +18,7 @@ use crate::record::CLOSED;
 use crate::record::FINISHED;
 use crate::record::REFUSED;
 use crate::record::Reader;
+use crate::record::SECTION;
 use crate::record::input_in;
 use crate::record::is_code;
 use crate::record::is_fit;
@@ -35,6 +36,9 @@ use wire::LIMIT;
 use wire::error::Error;
 use wire::error::ErrorKind;
 use wire::error::Input;
+
+// The number of an error for too many bytes.
+const TOO_LARGE: u32 = 19;
 
 // So many whole elements and more to come; so many rows and the section is complete; or a refusal.
 pub enum Fed {
@@ -190,7 +194,7 @@ fn feed_any(
         if fragment.len() == 0 {
             return reader;
         }
-        return refusal(19, 0, 6);
+        return refusal(TOO_LARGE, 0, SECTION);
     }
     let room = LIMIT - before;
     if fragment.len() <= room {
@@ -200,7 +204,7 @@ fn feed_any(
     if r.stage == REFUSED {
         return r;
     }
-    refusal(19, 0, 6)
+    refusal(TOO_LARGE, 0, SECTION)
 }
 
 // Feeds a fragment.

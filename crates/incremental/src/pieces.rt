@@ -27,6 +27,7 @@ use crate::record::FINISHED;
 use crate::record::MAPS;
 use crate::record::PREFIX;
 use crate::record::Reader;
+use crate::record::SECTION;
 use crate::record::plain;
 use crate::record::refusal;
 use column::column::Column;
@@ -48,9 +49,6 @@ use wire::bits::map_bytes;
 use wire::error::Error;
 use wire::integer::IntRead;
 use wire::integer::u32_at;
-
-// The number of an error about the section, as a record holds it.
-const SECTION: usize = 6;
 
 // A refusal, from here on.
 pub(crate) fn stop(code: u32, offset: usize) -> Reader
@@ -112,7 +110,14 @@ fn maps_size(slots: &[u64; 512], schemas: usize, kind: usize, id: usize) -> usiz
 }
 
 // Row data that start at `at`; there may be no map.
-fn start_row(slots: &[u64; 512], schemas: usize, rows: usize, at: usize, kind: usize, id: usize) -> Reader
+fn start_row(
+    slots: &[u64; 512],
+    schemas: usize,
+    rows: usize,
+    at: usize,
+    kind: usize,
+    id: usize,
+) -> Reader
     requires { ⌜ Sound (now slots) schemas × (rows < at) × (at ≤ 16777216) ⌝ }
     ensures { λ a. ⌜ Stands (settle (rowFrom (schemasIn 0 schemas (now (slots .entry))) rows at (kindBy kind id))) at a ⌝ }
 {
@@ -140,7 +145,15 @@ fn start_id(stage: u32, rows: usize, at: usize, paired: usize, id: usize) -> Rea
 }
 
 // A token.
-pub(crate) fn read_token(slots: &[u64; 512], schemas: usize, rows: usize, at: usize, paired: usize, id: usize, token: u8) -> Reader
+pub(crate) fn read_token(
+    slots: &[u64; 512],
+    schemas: usize,
+    rows: usize,
+    at: usize,
+    paired: usize,
+    id: usize,
+    token: u8,
+) -> Reader
     requires { ⌜ Sound (now slots) schemas × (rows ≤ at) × (at < 16777216) ⌝ }
     ensures { λ a. ⌜ Stands (settle (tokened (schemasIn 0 schemas (now (slots .entry))) rows at (beforeBy paired id) (tokenOf token))) (at + 1) a ⌝ }
 {

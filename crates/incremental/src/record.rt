@@ -32,6 +32,11 @@ pub const REFUSED: u32 = 8;
 
 pub const CLOSED: u32 = 9;
 
+// The numbers of the inputs that a refusal is about, where it is not about the record: the schema file, the section.
+const SCHEMA: usize = 1;
+
+pub(crate) const SECTION: usize = 6;
+
 // So many bytes of a piece, or of the maps of a row, are kept at most.
 pub const KEPT: usize = 16;
 
@@ -147,10 +152,10 @@ pub(crate) fn is_code(code: u32) -> bool
 pub(crate) fn input_in(number: usize) -> Input
     ensures { λ r. ⌜ r ≡ inputIn number ⌝ }
 {
-    if number == 1 {
+    if number == SCHEMA {
         return Input::Schema;
     }
-    if number == 6 {
+    if number == SECTION {
         return Input::Section;
     }
     Input::Reader

@@ -57,7 +57,15 @@ fn behind_elements(slots: &[u64; 512], r: Reader, rows: usize, bytes: usize, chi
 }
 
 // Between elements: whole ones are passed, then a token is read, where there is one.
-fn from_token(slots: &[u64; 512], shapes: &[usize], schemas: usize, step: usize, r: Reader, fragment: &[u8], at: usize) -> Moved
+fn from_token(
+    slots: &[u64; 512],
+    shapes: &[usize],
+    schemas: usize,
+    step: usize,
+    r: Reader,
+    fragment: &[u8],
+    at: usize,
+) -> Moved
     requires { ⌜ Ready (now slots) (now shapes) schemas step × Sane r (placeIn r) × (at < length (now fragment)) × (at ≤ placeIn r) × (placeIn r + (length (now fragment) - at) ≤ 16777216) × (r .stage ≡ 0) ⌝ }
     ensures { λ m. ⌜ MovedOn (schemasIn 0 schemas (now (slots .entry))) (now (fragment .entry)) r at m ⌝ }
 {
@@ -84,16 +92,30 @@ fn over_body(slots: &[u64; 512], schemas: usize, r: Reader, fragment: &[u8], at:
     let left = fragment.len() - at;
     if r.more < left {
         let to = r.at + r.more + 1;
-        return Moved { reader: seek(slots, schemas, r, to, r.column), at: at + r.more + 1 };
+        return Moved {
+            reader: seek(slots, schemas, r, to, r.column),
+            at: at + r.more + 1,
+        };
     }
     let mut next = r;
     next.at = r.at + left;
     next.more = r.more - left;
-    Moved { reader: next, at: at + left }
+    Moved {
+        reader: next,
+        at: at + left,
+    }
 }
 
 // One move over a fragment.
-fn move_on(slots: &[u64; 512], shapes: &[usize], schemas: usize, step: usize, r: Reader, fragment: &[u8], at: usize) -> Moved
+fn move_on(
+    slots: &[u64; 512],
+    shapes: &[usize],
+    schemas: usize,
+    step: usize,
+    r: Reader,
+    fragment: &[u8],
+    at: usize,
+) -> Moved
     requires { ⌜ Ready (now slots) (now shapes) schemas step × (at < length (now fragment)) × MoveReady r (length (now fragment)) at ⌝ }
     ensures { λ m. ⌜ MovedOn (schemasIn 0 schemas (now (slots .entry))) (now (fragment .entry)) r at m ⌝ }
 {
@@ -110,13 +132,26 @@ fn move_on(slots: &[u64; 512], shapes: &[usize], schemas: usize, step: usize, r:
         };
     }
     if r.stage == REFUSED {
-        return Moved { reader: r, at: fragment.len() };
+        return Moved {
+            reader: r,
+            at: fragment.len(),
+        };
     }
-    Moved { reader: keep_byte(slots, schemas, r, fragment[at]), at: at + 1 }
+    Moved {
+        reader: keep_byte(slots, schemas, r, fragment[at]),
+        at: at + 1,
+    }
 }
 
 // Takes in a fragment.
-pub(crate) fn take_in(slots: &[u64; 512], shapes: &[usize], schemas: usize, step: usize, reader: Reader, fragment: &[u8]) -> Reader
+pub(crate) fn take_in(
+    slots: &[u64; 512],
+    shapes: &[usize],
+    schemas: usize,
+    step: usize,
+    reader: Reader,
+    fragment: &[u8],
+) -> Reader
     requires { ⌜ Ready (now slots) (now shapes) schemas step × Sane reader (placeIn reader) × (placeIn reader + length (now fragment) ≤ 16777216) ⌝ }
     ensures { λ a. ⌜ Stands (feed (schemasIn 0 schemas (now (slots .entry))) (stateIn reader) (now (fragment .entry))) (placeIn reader + length (now (fragment .entry))) a ⌝ }
 {

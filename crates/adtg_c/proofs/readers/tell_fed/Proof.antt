@@ -14,11 +14,10 @@ returns-2 : tie.Need-returns-2
 returns-2 c = sym (ap fedAnswer (ap toldFed (c .before .fed2 .given .1)))
 
 returns-3 : tie.Need-returns-3
-returns-3 c =
-    ?
+returns-3 c = rw (c .number .ensures) (sym (ap fedAnswer (ap toldFed (c .before .before .fed3 .given .1))))
 
 pub tell-fed-spec : {M : Type 1} → statement M
 tell-fed-spec =
     tie.close
     (tie.spec
-    (λ c. search needs) (λ c. search needs) (λ c. search needs) (λ c κs. search needs) (λ c κs. search needs) returns returns-2 returns-3)
+    (λ c. search needs) (λ c. search needs) (λ c. search needs) (λ c κs. search needs) returns returns-2 returns-3)
