@@ -2,26 +2,28 @@
 -- Assumes nothing.
 use Prim.Native.Nat.{ℕ, zero, suc, _+_, _-_, _≤_, _<_}
 use mathlib.Core.List.{List, [], _∷_, _++_}
+use mathlib.Core.Bool.{Bool, true, false}
 use mathlib.Core.Path.{_≡_, refl, sym, ap, _∙_, subst}
 use native.Mathlib.Omega.{arith}
 use lib.ListN.{length, getD, take, drop, length-drop, take-append-drop}
 use lib.Seq.{drop-cons, drop-drop, drop-length}
 use Rattle.wire.specs.declared.error.Input.the-variants as input
-use Rattle.wire.specs.Read.{Bytes, cut}
-use Rattle.wire.proofs.Pieces.{cut-length}
+use Rattle.wire.specs.Read.{Bytes, ok, whole, cut}
+use Rattle.wire.specs.Integers.{readInt}
+use Rattle.wire.proofs.Pieces.{cut-length, bind-ok, ok-ok, whole-ok}
 use Rattle.tree.specs.Schemas.{Schema}
 use Rattle.tree.specs.Table.{schemaSlot, idIn}
-use Rattle.grammar.specs.Grammar.{Before, after}
-use Rattle.grammar.specs.Reader.{tokenOf}
+use Rattle.grammar.specs.Grammar.{Before, other, after}
+use Rattle.grammar.specs.Reader.{deleteToken, tokenOf, follows, idAt}
 use Rattle.section.specs.Heads.{beforeIn}
 use Rattle.section.specs.Passes.{Passes}
 use Rattle.feeding.specs.Machine.{Kind, State, between, skip, finished, stopped, settle, seekFrom, tokened, byte, feed}
 use Rattle.feeding.proofs.Fed.{feed-append, feed-stopped}
-use Rattle.feeding.proofs.Bulk.{skip-some, skip-all}
+use Rattle.feeding.proofs.Bulk.{skip-some, skip-all, delete-quick}
 use Rattle.incremental.specs.declared.record.Reader.{Reader}
 use Rattle.incremental.specs.declared.take.Moved.{Moved}
-use Rattle.incremental.specs.Record.{beforeBy, kindIn, mapIn, stateIn}
-use Rattle.incremental.specs.Steps.{placeIn, Sane, Came, ended, came, Stands, MoveReady, ends, goes, MovedOn}
+use Rattle.incremental.specs.Record.{beforeBy, kindIn, mapIn, stateIn, numbers}
+use Rattle.incremental.specs.Steps.{placeIn, Sane, Came, ended, came, Stands, DeletedAt, MoveReady, ends, goes, MovedOn}
 use Rattle.incremental.proofs.StateLaws.{state-between, state-body, state-finished, state-stopped, place-between, place-piece, place-late, stands, sane-between}
 use Rattle.incremental.proofs.PassLaws.{passes-fed}
 
@@ -107,6 +109,28 @@ module _ (S : List Schema) (s : Bytes) (at : ℕ) where
         further = h;
         inside = l;
         sane = onward r r′ (to - at) (omega arith) (came-to (w .sane) (ap (λ (o : ℕ). o + (to - at)) (sym (place-between r e))));
+      }
+
+  -- An 8C element.
+  pub moved-deleted :
+      (r r′ : Reader) → r .stage ≡ 0 → at ≤ r .at → DeletedAt s (beforeBy (r .paired) (r .id)) at → Stands (between (r .rows) (r .at + 5) other) (r .at + 5) r′ →
+      MovedOn S s r at (record { reader = r′; at = at + 5 })
+  moved-deleted r r′ e a x w =
+      let y : r .at ≡ r .at - at + at = omega arith in
+      let z : r .at - at + (at + 5) ≡ r .at + 5 = omega arith in
+      let u : at + (at + 5 - at) ≡ at + 5 = omega arith in
+      let v : r .at + 5 ≡ placeIn r + (at + 5 - at) = omega (arith, place-between r e) in
+      record {
+        same =
+            ap (λ (st : State). feed S st (drop at s)) (state-between r e ∙ ap (λ (o : ℕ). between (r .rows) o (beforeBy (r .paired) (r .id))) y)
+            ∙ ap (feed S (between (r .rows) (r .at - at + at) (beforeBy (r .paired) (r .id)))) (parts (at + 5 - at))
+            ∙ feed-append S (between (r .rows) (r .at - at + at) (beforeBy (r .paired) (r .id))) (cut s at (at + 5 - at)) (drop (at + (at + 5 - at)) s)
+            ∙ ap (λ (st : State). feed S st (drop (at + (at + 5 - at)) s))
+            (delete-quick S s (r .at - at) (r .rows) at (beforeBy (r .paired) (r .id)) (x .fits) (x .token) (x .paired) ∙ ap (λ (o : ℕ). between (r .rows) o other) z ∙ sym (w .state))
+            ∙ ap (λ (o : ℕ). feed S (stateIn r′) (drop o s)) u;
+        further = omega arith;
+        inside = x .fits;
+        sane = onward r r′ (at + 5 - at) (omega arith) (came-to (w .sane) v);
       }
 
   -- All bytes of a field.
@@ -227,3 +251,29 @@ taking-ready S s reader r at t h = go (t .sane)
     go : Came r (placeIn reader + at) → MoveReady r (length s) at
     go (ended e) = ends e
     go (came w) = goes (rw (sym (w .comes)) at w) (omega (arith, w .comes)) (omega (arith, w .comes, t .inside))
+
+-- An 8C element, as code sees it.
+token-delete : (b : ℕ) → b ≡ 0x8C → tokenOf b ≡ deleteToken
+unfolding tokenOf
+token-delete b e = rw e refl
+
+pub deleted-at :
+    (s : Bytes) (at paired before : ℕ) {id : ℕ} {a : Bool} → getD s at 0 ≡ 0x8C → ok id ≡ readInt s (at + 1) 4 → a ≡ follows (beforeBy paired before) id → a ≡ true →
+    DeletedAt s (beforeBy paired before) at
+unfolding readInt
+deleted-at s at paired before {id} t e f g =
+    let (b, w, v) = bind-ok (whole s (at + 1) 4) _ id (sym e) in
+    let i : id ≡ idAt s at = sym (ok-ok v) in
+    record {
+      fits = omega (arith, whole-ok s (at + 1) 4 b w .0 .ends, whole-ok s (at + 1) 4 b w .0 .inside, whole-ok s (at + 1) 4 b w .1);
+      token = token-delete (getD s at 0) t;
+      paired = ap (follows (beforeBy paired before)) (sym i) ∙ sym f ∙ g;
+    }
+
+pub between-stands : (rows at : ℕ) → rows ≤ at → Stands (between rows at other) at (numbers 0 0 0 0 0 rows at 0 0 0 [] [])
+between-stands rows at h =
+    let r : Reader = numbers 0 0 0 0 0 rows at 0 0 0 [] [] in
+    stands (state-between r refl) (sane-between r (omega arith) (omega arith) h refl) refl
+
+pub not-true : {A : Type 0} → false ≡ true → A
+not-true e = let z : _≡_ {A = ℕ} 0 1 = cc in absurd (omega arith)

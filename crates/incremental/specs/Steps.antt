@@ -16,6 +16,8 @@ use Rattle.schema.specs.declared.reader.Place.{Place}
 use Rattle.schema.specs.declared.reader.PlaceRead.{PlaceRead}
 use Rattle.schema.specs.declared.reader.PlaceRead.the-variants as place
 use Rattle.tree.specs.Table.{entriesIn, schemasIn}
+use Rattle.grammar.specs.Grammar.{Before}
+use Rattle.grammar.specs.Reader.{tokenOf, deleteToken, follows, idAt}
 use Rattle.shapes.specs.Shapes.{Sound}
 use Rattle.shapes.specs.Masks.{Shaped}
 use Rattle.quick.specs.Quick.{RowStep}
@@ -76,6 +78,12 @@ pub record Ready (slots shapes : List ℕ) (n step : ℕ) : Type 0 where
   pub sound : Sound slots n
   pub shaped : Shaped slots shapes n
   pub steps : RowStep shapes step
+
+-- A whole 8C element stands at `at`, behind its 87 element.
+pub record DeletedAt (s : Bytes) (before : Before) (at : ℕ) : Type 0 where
+  pub fits : at + 5 ≤ length s
+  pub token : tokenOf (getD s at 0) ≡ deleteToken
+  pub paired : follows before (idAt s at) ≡ true
 
 -- What a move over so many bytes from `at` on is given: a refusal, or a state that has room for them.
 pub data MoveReady (r : Reader) (size at : ℕ) : Type 0 where

@@ -1,5 +1,6 @@
 // A fragment taken in.
 ghost use mathlib.Core.Path.{_≡_};
+ghost use mathlib.Core.Bool.{true};
 ghost use Prim.Native.Nat.{_+_, _-_, _≤_, _<_};
 ghost use lib.ListN.{length, drop};
 ghost use lib.Dec.{eqb};
@@ -9,9 +10,10 @@ ghost use Rattle.section.specs.Heads.{beforeIn};
 ghost use Rattle.tree.specs.Table.{schemasIn};
 ghost use Rattle.shapes.specs.Shapes.{Sound};
 ghost use Rattle.feeding.specs.Machine.{between, feed};
-ghost use Rattle.incremental.specs.Record.{stateIn};
-ghost use Rattle.incremental.specs.Steps.{Ready, Sane, MoveReady, Stands, MovedOn, placeIn};
+ghost use Rattle.incremental.specs.Record.{beforeBy, stateIn};
+ghost use Rattle.incremental.specs.Steps.{Ready, Sane, MoveReady, Stands, DeletedAt, MovedOn, placeIn};
 use crate::fields::seek;
+use crate::pieces::follows;
 use crate::pieces::keep_byte;
 use crate::pieces::read_token;
 use crate::pieces::stop;
@@ -23,8 +25,11 @@ use crate::record::Reader;
 use crate::record::plain;
 use schema::children::child_number;
 use schema::children::id_in;
+use section::heads::DELETE;
 use section::pass::pass_elements;
 use shapes::shapes::SCHEMAS;
+use wire::integer::IntRead;
+use wire::integer::u32_at;
 
 // Where a part of a fragment led.
 pub struct Moved {
@@ -56,6 +61,20 @@ fn behind_elements(slots: &[u64; 512], r: Reader, rows: usize, bytes: usize, chi
     next
 }
 
+// Whether a whole 8C element stands at `at`, behind its 87 element.
+fn is_deleted(r: Reader, fragment: &[u8], at: usize) -> bool
+    requires { ⌜ (at < length (now fragment)) × (at ≤ 16777216) ⌝ }
+    ensures { λ a. ⌜ (a ≡ true → DeletedAt (now (fragment .entry)) (beforeBy (r .paired) (r .id)) at) ⌝ }
+{
+    if fragment[at] != DELETE {
+        return false;
+    }
+    match u32_at(fragment, at + 1) {
+        IntRead::Refused(_) => false,
+        IntRead::Int(id) => follows(r.paired, r.id, id),
+    }
+}
+
 // Between elements: whole ones are passed, then a token is read, where there is one.
 fn from_token(
     slots: &[u64; 512],
@@ -76,6 +95,12 @@ fn from_token(
         return Moved {
             reader: behind_elements(slots, r, passed.rows, to - at, passed.child),
             at: to,
+        };
+    }
+    if is_deleted(r, fragment, at) {
+        return Moved {
+            reader: plain(BETWEEN, r.rows, r.at + 5),
+            at: at + 5,
         };
     }
     Moved {
