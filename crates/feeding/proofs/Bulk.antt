@@ -147,84 +147,96 @@ module _ (u : Bool) (cs : List Column) (map s : Bytes) where
           (omega (arith, d .starts, d .forward), j)
       go ih false t = ih at l (sym (fields-none m ms at t) ∙ h)
 
--- Row data that lie whole in a fragment s, from `at` to e, where the fragment's first byte has the place d: the state behind them.
-module _ (S : List Schema) (s : Bytes) (d n : ℕ) where
-  variable-quick :
-      (k : Kind) (map : Bytes) (c : Column) (j p at e f : ℕ) → columnFor S k j ≡ c → at + prefixSize c ≤ f → f ≤ e → e ≤ length s →
-      intAt s at (prefixSize c) ≡ f - (at + prefixSize c) → lengthError c (f - (at + prefixSize c)) ≡ 0 →
-      feed S (seekFrom S n (p + prefixSize c + (f - (at + prefixSize c))) k map (suc j)) (cut s f (e - f)) ≡ M.between (n + adds k) (d + e) (behind k) →
-      feed S (keep n p [] (prefixSize c - 1) (prefix k map j)) (cut s at (e - at)) ≡ M.between (n + adds k) (d + e) (behind k)
-  variable-quick k map c j p at e f u h i o said fine last =
+-- One field that lies whole in a fragment s, from `at` on: the state behind it, at the next column.
+module _ (S : List Schema) (s : Bytes) (n : ℕ) where
+  variable-passed :
+      (k : Kind) (map : Bytes) (c : Column) (j p at f : ℕ) → columnFor S k j ≡ c → at + prefixSize c ≤ f → f ≤ length s → intAt s at (prefixSize c) ≡ f - (at + prefixSize c) →
+      lengthError c (f - (at + prefixSize c)) ≡ 0 →
+      feed S (keep n p [] (prefixSize c - 1) (prefix k map j)) (cut s at (f - at)) ≡ seekFrom S n (p + (f - at)) k map (suc j)
+  variable-passed k map c j p at f u h o said fine =
       let z : at + prefixSize c - at ≡ prefixSize c = omega arith in
       let y : at + (at + prefixSize c - at) ≡ at + prefixSize c = omega arith in
+      let x : p + prefixSize c + (f - (at + prefixSize c)) ≡ p + (f - at) = omega arith in
       let l : length (cut s at (at + prefixSize c - at)) ≡ prefixSize c = cut-length s at (at + prefixSize c - at) (omega arith) ∙ z in
       let q : Piece s at (at + prefixSize c) (cut s at (at + prefixSize c - at)) = piece-to y (piece s at (at + prefixSize c - at) (omega arith)) in
-      ap (feed S (keep n p [] (prefixSize c - 1) (prefix k map j))) (cut-two s at (at + prefixSize c) e (omega arith) (omega arith) o)
-      ∙ feed-append S _ (cut s at (at + prefixSize c - at)) (cut s (at + prefixSize c) (e - (at + prefixSize c)))
-      ∙ ap (λ (st : State). feed S st (cut s (at + prefixSize c) (e - (at + prefixSize c))))
+      ap (feed S (keep n p [] (prefixSize c - 1) (prefix k map j))) (cut-two s at (at + prefixSize c) f (omega arith) h o)
+      ∙ feed-append S _ (cut s at (at + prefixSize c - at)) (cut s (at + prefixSize c) (f - (at + prefixSize c)))
+      ∙ ap (λ (st : State). feed S st (cut s (at + prefixSize c) (f - (at + prefixSize c))))
       (keep-all S n p (prefixSize c - 1) [] (cut s at (at + prefixSize c - at)) (prefix k map j) (omega (arith, l, prefix-positive c))
       ∙ judged-prefix S n p (f - (at + prefixSize c)) (cut s at (at + prefixSize c - at)) k map c j u l
       (sym (int-piece s at (at + prefixSize c) (prefixSize c) (cut s at (at + prefixSize c - at)) q l) ∙ said) fine)
-      ∙ ap (feed S (bodyOf n (p + prefixSize c) (f - (at + prefixSize c)) k map (suc j) (seekFrom S n (p + prefixSize c + (f - (at + prefixSize c))) k map (suc j))))
-      (cut-two s (at + prefixSize c) f e h i o)
-      ∙ feed-append S _ (cut s (at + prefixSize c) (f - (at + prefixSize c))) (cut s f (e - f))
-      ∙ ap (λ (st : State). feed S st (cut s f (e - f)))
-      (body-all S n (p + prefixSize c) (f - (at + prefixSize c)) k map (suc j) (cut s (at + prefixSize c) (f - (at + prefixSize c)))
-      (cut-length s (at + prefixSize c) (f - (at + prefixSize c)) (omega arith)))
-      ∙ last
+      ∙ body-all S n (p + prefixSize c) (f - (at + prefixSize c)) k map (suc j) (cut s (at + prefixSize c) (f - (at + prefixSize c)))
+      (cut-length s (at + prefixSize c) (f - (at + prefixSize c)) (omega arith))
+      ∙ ap (λ (a : ℕ). seekFrom S n a k map (suc j)) x
 
+  pub field-passed :
+      (k : Kind) (map : Bytes) (j : ℕ) (m : Mark) (ms : List Mark) (p at : ℕ) (f : Field) → drop j (marksFor S k) ≡ m ∷ ms → hasFor S k map m ≡ true →
+      fieldAt (m .column) s at ≡ ok f → feed S (seekFrom S n p k map j) (cut s at (f .end - at)) ≡ seekFrom S n (p + (f .end - at)) k map (suc j)
+  unfolding seek
+  field-passed k map j m ms p at f r t x = rw (r, t) (go (isVariable (m .column)) refl)
+    where
+      -- the columns behind this one, by their marks
+      onto : (a : ℕ) → seek S n a k map (suc j) ms ≡ seekFrom S n a k map (suc j)
+      onto a = ap (seek S n a k map (suc j)) (sym (left-rest (marksFor S k) j noMark m ms r))
+
+      go :
+          (v : Bool) → isVariable (m .column) ≡ v →
+          feed S
+          (pick v (keep n p [] (prefixSize (m .column) - 1) (prefix k map j))
+          (bodyOf n p (width (m .column)) k map (suc j) (seek S n (p + width (m .column)) k map (suc j) ms)))
+          (cut s at (f .end - at))
+          ≡ seekFrom S n (p + (f .end - at)) k map (suc j)
+      go true v =
+          let w = field-told (m .column) s at x in
+          variable-passed k map (m .column) j p at (f .end) (column-left S k j m ms r) (omega (arith, w .starts, w .forward, prefix-variable (m .column) v)) (w .ends)
+          (w .length-said v ∙ omega (arith, w .starts, w .forward, prefix-variable (m .column) v))
+          (ap (lengthError (m .column)) (omega (arith, w .starts, w .forward, prefix-variable (m .column) v)) ∙ w .length-allowed v)
+      go false v =
+          let w = field-told (m .column) s at x in
+          let y : f .end ≡ at + width (m .column) = omega (arith, w .fixed v, w .starts, prefix-plain (m .column) v) in
+          let z : width (m .column) ≡ f .end - at = omega arith in
+          ap (λ (st : State). feed S (bodyOf n p (width (m .column)) k map (suc j) st) (cut s at (f .end - at))) (onto (p + width (m .column)))
+          ∙ body-all S n p (width (m .column)) k map (suc j) (cut s at (f .end - at)) (cut-length s at (f .end - at) (omega (arith, w .ends)) ∙ omega arith)
+          ∙ ap (λ (a : ℕ). seekFrom S n (p + a) k map (suc j)) z
+
+  -- a column without a field
+  pub none-passed :
+      (k : Kind) (map : Bytes) (j : ℕ) (m : Mark) (ms : List Mark) (p : ℕ) → drop j (marksFor S k) ≡ m ∷ ms → hasFor S k map m ≡ false →
+      seekFrom S n p k map j ≡ seekFrom S n p k map (suc j)
+  unfolding seek
+  none-passed k map j m ms p r t = rw (r, t) (ap (seek S n p k map (suc j)) (sym (left-rest (marksFor S k) j noMark m ms r)))
+
+-- Row data that lie whole in a fragment s, from `at` to e, where the fragment's first byte has the place d: the state behind them.
+module _ (S : List Schema) (s : Bytes) (d n : ℕ) where
   fields-quick :
       (k : Kind) (map : Bytes) (j : ℕ) (ms : List Mark) (p at e : ℕ) → drop j (marksFor S k) ≡ ms → p ≡ d + at → at ≤ length s →
       fieldsFrom (isUpdate k) (columnsFor S k) map s ms at ≡ ok e →
-      feed S (seek S n p k map j ms) (cut s at (e - at)) ≡ M.between (n + adds k) (d + e) (behind k)
+      feed S (seekFrom S n p k map j) (cut s at (e - at)) ≡ M.between (n + adds k) (d + e) (behind k)
   unfolding walk feed seek
   fields-quick k map j [] p at e r q l h =
       let z : at ≡ e = ok-ok h in
       let y : e - at ≡ 0 = omega arith in
       let x : p ≡ d + e = omega arith in
-      rw (y, x)
-  fields-quick k map j (m ∷ ms) p at e r q l h =
-      go (λ a b i u g. fields-quick k map (suc j) ms a b e after i u g) (hasFor S k map m) (isVariable (m .column)) refl refl
+      rw (y, r, x)
+  fields-quick k map j (m ∷ ms) p at e r q l h = go (λ a b i u g. fields-quick k map (suc j) ms a b e after i u g) (hasFor S k map m) refl
     where
       after : drop (suc j) (marksFor S k) ≡ ms
       after = left-rest (marksFor S k) j noMark m ms r
 
-      -- the columns behind this one, by their marks
-      onto : (a : ℕ) → seekFrom S n a k map (suc j) ≡ seek S n a k map (suc j) ms
-      onto a = ap (seek S n a k map (suc j)) after
-
       go :
-          ((a b : ℕ) → a ≡ d + b → b ≤ length s → fieldsFrom (isUpdate k) (columnsFor S k) map s ms b ≡ ok e → feed S (seek S n a k map (suc j) ms) (cut s b (e - b)) ≡ M.between (n + adds k) (d + e) (behind k)) →
-          (t v : Bool) → hasFor S k map m ≡ t → isVariable (m .column) ≡ v →
-          feed S
-          (pick t
-          (pick v (keep n p [] (prefixSize (m .column) - 1) (prefix k map j))
-          (bodyOf n p (width (m .column)) k map (suc j) (seek S n (p + width (m .column)) k map (suc j) ms)))
-          (seek S n p k map (suc j) ms))
-          (cut s at (e - at))
-          ≡ M.between (n + adds k) (d + e) (behind k)
-      go ih true true t v =
+          ((a b : ℕ) → a ≡ d + b → b ≤ length s → fieldsFrom (isUpdate k) (columnsFor S k) map s ms b ≡ ok e → feed S (seekFrom S n a k map (suc j)) (cut s b (e - b)) ≡ M.between (n + adds k) (d + e) (behind k)) →
+          (t : Bool) → hasFor S k map m ≡ t → feed S (seekFrom S n p k map j) (cut s at (e - at)) ≡ M.between (n + adds k) (d + e) (behind k)
+      go ih true t =
           let (f, x, g) = fields-field (isUpdate k) (columnsFor S k) map s m ms at e t h in
           let w = field-told (m .column) s at x in
           let (i, o) = fields-ends (isUpdate k) (columnsFor S k) map s ms (f .end) e (w .ends) g in
-          variable-quick k map (m .column) j p at e (f .end) (column-left S k j m ms r) (omega (arith, w .starts, w .forward, prefix-variable (m .column) v)) i o
-          (w .length-said v ∙ omega (arith, w .starts, w .forward, prefix-variable (m .column) v))
-          (ap (lengthError (m .column)) (omega (arith, w .starts, w .forward, prefix-variable (m .column) v)) ∙ w .length-allowed v)
-          (ap (λ (st : State). feed S st (cut s (f .end) (e - f .end))) (onto (p + prefixSize (m .column) + (f .end - (at + prefixSize (m .column)))))
-          ∙ ih (p + prefixSize (m .column) + (f .end - (at + prefixSize (m .column)))) (f .end) (omega (arith, w .starts, w .forward, prefix-variable (m .column) v)) (w .ends) g)
-      go ih true false t v =
-          let (f, x, g) = fields-field (isUpdate k) (columnsFor S k) map s m ms at e t h in
-          let w = field-told (m .column) s at x in
-          let (i, o) = fields-ends (isUpdate k) (columnsFor S k) map s ms (f .end) e (w .ends) g in
-          let y : f .end ≡ at + width (m .column) = omega (arith, w .fixed v, w .starts, prefix-plain (m .column) v) in
-          ap (λ (st : State). feed S (bodyOf n p (width (m .column)) k map (suc j) st) (cut s at (e - at))) (sym (onto (p + width (m .column))))
-          ∙ ap (feed S (bodyOf n p (width (m .column)) k map (suc j) (seekFrom S n (p + width (m .column)) k map (suc j)))) (cut-two s at (f .end) e (omega arith) i o)
+          ap (feed S (seekFrom S n p k map j)) (cut-two s at (f .end) e (omega (arith, w .starts, w .forward)) i o)
           ∙ feed-append S _ (cut s at (f .end - at)) (cut s (f .end) (e - f .end))
-          ∙ ap (λ (st : State). feed S st (cut s (f .end) (e - f .end)))
-          (body-all S n p (width (m .column)) k map (suc j) (cut s at (f .end - at)) (cut-length s at (f .end - at) (omega (arith, w .ends)) ∙ omega arith)
-          ∙ onto (p + width (m .column)))
-          ∙ ih (p + width (m .column)) (f .end) (omega arith) (w .ends) g
-      go ih false v t _ = ih p at q l (sym (fields-none (isUpdate k) (columnsFor S k) map s m ms at t) ∙ h)
+          ∙ ap (λ (st : State). feed S st (cut s (f .end) (e - f .end))) (field-passed S s n k map j m ms p at f r t x)
+          ∙ ih (p + (f .end - at)) (f .end) (omega (arith, w .starts, w .forward)) (w .ends) g
+      go ih false t =
+          ap (λ (st : State). feed S st (cut s at (e - at))) (none-passed S s n k map j m ms p r t)
+          ∙ ih p at q l (sym (fields-none (isUpdate k) (columnsFor S k) map s m ms at t) ∙ h)
 
   row-fed :
       (k : Kind) (p : ℕ) (map : Bytes) → length map ≡ mapSize S k → feed S (settle (rowFrom S n p k)) map ≡ settle (mapped S n p map k)

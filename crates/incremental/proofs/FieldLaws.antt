@@ -10,9 +10,12 @@ use lib.ListN.{length, getD, drop, drop-of-length-le}
 use lib.Seq.{drop-cons}
 use lib.Dec.{eqb, leb, ltb}
 use borrow.Author.Tests.{eq-eqb, ne-eqb, leb-true, leb-false, le-leb, ltb-true, ltb-false}
-use Rattle.wire.specs.Read.{Bytes, pick}
+use Rattle.wire.specs.Read.{Bytes, ok, pick, cut}
 use Rattle.wire.specs.Bits.{mapBytes}
 use Rattle.column.specs.declared.column.Column.{Column}
+use Rattle.column.specs.declared.field.Field.{Field}
+use Rattle.column.specs.Fields.{fieldAt}
+use Rattle.column.proofs.Laws.{field-told}
 use Rattle.column.specs.Columns.{isVariable, isNullable, width, prefixSize}
 use Rattle.walk.specs.Presence.{noColumn, one, bitOf, Mark, noMark, mark, present}
 use Rattle.walk.specs.Updates.{updateBytes, carried, carriedIn}
@@ -27,11 +30,16 @@ use Rattle.tree.proofs.Children.{child-found}
 use Rattle.shapes.specs.Shapes.{Sound, slotColumns}
 use Rattle.shapes.proofs.Slots.{inSlots, length-slots, slot-at, slot-bit}
 use Rattle.section.proofs.Scanning.{columns-at}
-use Rattle.feeding.specs.Machine.{Kind, parentRow, childRow, changeRow, isUpdate, columnsFor, columnFor, marksFor, hasFor, behind, adds, prefix, State, between, keep, skip, bodyOf, seek, seekFrom}
+use Rattle.feeding.specs.Machine.{Kind, parentRow, childRow, changeRow, isUpdate, columnsFor, columnFor, marksFor, hasFor, behind, adds, prefix, State, between, keep, skip, bodyOf, seek, seekFrom, feed}
 use Rattle.feeding.proofs.Left.{marks-length}
+use Rattle.feeding.proofs.Fed.{feed-append}
+use Rattle.feeding.proofs.Bulk.{cut-two, field-passed}
 use Rattle.incremental.specs.declared.fields.Block.{Block}
-use Rattle.incremental.specs.Record.{kindBy}
-use Rattle.incremental.specs.Steps.{numberFor, Columns, NextField}
+use Rattle.incremental.specs.declared.fields.Fields.{Fields}
+use Rattle.incremental.specs.declared.fields.Moved.{Moved}
+use Rattle.incremental.specs.declared.record.Reader.{Reader}
+use Rattle.incremental.specs.Record.{kindBy, kindIn, mapIn, stateIn}
+use Rattle.incremental.specs.Steps.{numberFor, Columns, FieldsPassed, Sought, Stands}
 
 false-true : false ≡ true → ⊥
 false-true e = let z : _≡_ {A = ℕ} 0 1 = cc in omega arith
@@ -64,6 +72,15 @@ module _ (S : List Schema) (n at : ℕ) (k : Kind) (bits : Bytes) (j : ℕ) wher
     seek-none e = seek-step ∙ rw e
 
     module _ (e : hasFor S k bits (getD (marksFor S k) j noMark) ≡ true) where
+      pub seek-field :
+          (s : Bytes) (start : ℕ) (f : Field) → fieldAt (columnFor S k j) s start ≡ ok f →
+          feed S (seekFrom S n at k bits j) (cut s start (f .end - start)) ≡ seekFrom S n (at + (f .end - start)) k bits (suc j)
+      seek-field s start f x =
+          let l : j < length (marksFor S k) = omega (arith, marks-length (isUpdate k) (columnsFor S k)) in
+          let c : getD (marksFor S k) j noMark .column ≡ columnFor S k j = data-column (isUpdate k) (columnsFor S k) j h in
+          field-passed S s n k bits j (getD (marksFor S k) j noMark) (drop (suc j) (marksFor S k)) at start f (drop-cons (marksFor S k) j noMark l) e
+          (ap (λ (y : Column). fieldAt y s start) c ∙ x)
+
       pub seek-empty :
           isVariable (columnFor S k j) ≡ false → width (columnFor S k j) ≡ 0 → seekFrom S n at k bits j ≡ seekFrom S n at k bits (suc j)
       seek-empty v w =
@@ -112,93 +129,141 @@ has-told true cs bits i bit half c h e b l =
     rw (number-at cs i h, e, drop-least bits (updateBytes cs) half l, z)
 has-told false cs bits i bit half c h e b l = rw (mark-at cs i h, e, b)
 
--- The loop over the columns: nothing has moved up to column i.
-pub record Looking (u : Bool) (cs : List Column) (bits : Bytes) (j i bit : ℕ) : Type 0 where
+-- The loop over the columns: up to column i, all fields from column j on were passed.
+pub record Passing (u : Bool) (cs : List Column) (bits : Bytes) (j : ℕ) (s : Bytes) (start i bit at : ℕ) : Type 0 where
   pub below : i ≤ length cs
   pub counted : bit ≡ bitOf cs i
   pub few : bit ≤ i
-  pub passes : (S : List Schema) (n at : ℕ) (k : Kind) → columnsFor S k ≡ cs → isUpdate k ≡ u → seekFrom S n at k bits j ≡ seekFrom S n at k bits (max i j)
+  pub forward : start ≤ at
+  pub inside : at ≤ length s
+  pub passes :
+      (S : List Schema) (n place : ℕ) (k : Kind) → columnsFor S k ≡ cs → isUpdate k ≡ u →
+      feed S (seekFrom S n place k bits j) (cut s start (at - start)) ≡ seekFrom S n (place + (at - start)) k bits (max i j)
 
-module _ (u : Bool) (cs : List Column) (bits : Bytes) (j : ℕ) where
-  pub looking-start : Looking u cs bits j 0 0
-  looking-start =
+module _ (u : Bool) (cs : List Column) (bits : Bytes) (j : ℕ) (s : Bytes) (start : ℕ) where
+  pub passing-start : start ≤ length s → Passing u cs bits j s start 0 0 start
+  unfolding feed
+  passing-start l =
       let z : max 0 j ≡ j = omega arith in
+      let x : start - start ≡ 0 = omega arith in
       record {
         below = omega arith;
         counted = sym (bit-zero cs);
         few = omega arith;
-        passes = λ S n at k e f. ap (seekFrom S n at k bits) (sym z);
+        forward = omega arith;
+        inside = l;
+        passes = λ S n place k e f. let y : place + 0 ≡ place = omega arith in rw (x, y, z) refl;
       }
 
-  module _ {i bit : ℕ} (w : Looking u cs bits j i bit) (h : i < length cs) (bit′ : ℕ) (e : (bit′ ≡ bitOf cs (i + 1)) × (bit′ ≤ i + 1)) where
-    -- a column before the one that is asked for
-    pub looking-before : i < j → Looking u cs bits j (i + 1) bit′
-    looking-before l =
-        let z : max i j ≡ max (i + 1) j = omega arith in
-        record {
-          below = omega arith;
-          counted = e .0;
-          few = e .1;
-          passes = λ S n at k p q. w .passes S n at k p q ∙ ap (seekFrom S n at k bits) z;
-        }
+  module _ {i bit at : ℕ} (w : Passing u cs bits j s start i bit at) (h : i < length cs) where
+    module _ (bit′ : ℕ) (e : (bit′ ≡ bitOf cs (i + 1)) × (bit′ ≤ i + 1)) where
+      -- a column before the one that is asked for
+      pub passing-before : i < j → Passing u cs bits j s start (i + 1) bit′ at
+      passing-before l =
+          let z : max i j ≡ max (i + 1) j = omega arith in
+          record {
+            below = omega arith;
+            counted = e .0;
+            few = e .1;
+            forward = w .forward;
+            inside = w .inside;
+            passes = λ S n place k p q. w .passes S n place k p q ∙ ap (seekFrom S n (place + (at - start)) k bits) z;
+          }
 
-    looking-past :
-        j ≤ i → ((S : List Schema) (n at : ℕ) (k : Kind) → columnsFor S k ≡ cs → isUpdate k ≡ u → seekFrom S n at k bits i ≡ seekFrom S n at k bits (suc i)) →
-        Looking u cs bits j (i + 1) bit′
-    looking-past l g =
+      -- one that moves nothing
+      passing-past :
+          j ≤ i → ((S : List Schema) (n place : ℕ) (k : Kind) → columnsFor S k ≡ cs → isUpdate k ≡ u → seekFrom S n place k bits i ≡ seekFrom S n place k bits (suc i)) →
+          Passing u cs bits j s start (i + 1) bit′ at
+      passing-past l g =
+          let y : max i j ≡ i = omega arith in
+          let z : suc i ≡ max (i + 1) j = omega arith in
+          record {
+            below = omega arith;
+            counted = e .0;
+            few = e .1;
+            forward = w .forward;
+            inside = w .inside;
+            passes = λ S n place k p q.
+                w .passes S n place k p q
+                ∙ ap (seekFrom S n (place + (at - start)) k bits) y
+                ∙ g S n (place + (at - start)) k p q
+                ∙ ap (seekFrom S n (place + (at - start)) k bits) z;
+          }
+
+      -- one without a field
+      pub passing-none : j ≤ i → dataHas u cs bits 0 (getD (dataMarks u cs) i noMark) ≡ false → Passing u cs bits j s start (i + 1) bit′ at
+      passing-none l t = passing-past l (λ S n place k p q. seek-none S n place k bits i (rw p h) (rw (p, q) t))
+
+      -- one whose field has no bytes
+      pub passing-empty :
+          j ≤ i → dataHas u cs bits 0 (getD (dataMarks u cs) i noMark) ≡ true → isVariable (getD cs i noColumn) ≡ false → width (getD cs i noColumn) ≡ 0 →
+          Passing u cs bits j s start (i + 1) bit′ at
+      passing-empty l t v x = passing-past l (λ S n place k p q. seek-empty S n place k bits i (rw p h) (rw (p, q) t) (rw p v) (rw p x))
+
+      -- one whose field is whole
+      pub passing-field :
+          j ≤ i → dataHas u cs bits 0 (getD (dataMarks u cs) i noMark) ≡ true → (f : Field) → fieldAt (getD cs i noColumn) s at ≡ ok f →
+          Passing u cs bits j s start (i + 1) bit′ (f .end)
+      passing-field l t f x =
+          let y : max i j ≡ i = omega arith in
+          let z : suc i ≡ max (i + 1) j = omega arith in
+          let d = field-told (getD cs i noColumn) s at x in
+          let o : at ≤ f .end = omega (arith, d .starts, d .forward) in
+          record {
+            below = omega arith;
+            counted = e .0;
+            few = e .1;
+            forward = omega (arith, w .forward);
+            inside = d .ends;
+            passes = λ S n place k p q.
+                let v : place + (at - start) + (f .end - at) ≡ place + (f .end - start) = omega (arith, w .forward) in
+                ap (feed S (seekFrom S n place k bits j)) (cut-two s start at (f .end) (w .forward) o (d .ends))
+                ∙ feed-append S _ (cut s start (at - start)) (cut s at (f .end - at))
+                ∙ ap (λ (st : State). feed S st (cut s at (f .end - at))) (w .passes S n place k p q ∙ ap (seekFrom S n (place + (at - start)) k bits) y)
+                ∙ seek-field S n (place + (at - start)) k bits i (rw p h) (rw (p, q) t) s at f (rw p x)
+                ∙ ap (λ (a : ℕ). seekFrom S n a k bits (suc i)) v
+                ∙ ap (seekFrom S n (place + (f .end - start)) k bits) z;
+          }
+
+    -- the field that is not
+    pub passing-found :
+        j ≤ i → dataHas u cs bits 0 (getD (dataMarks u cs) i noMark) ≡ true → (isVariable (getD cs i noColumn) ≡ false → 0 < width (getD cs i noColumn)) →
+        FieldsPassed u cs bits j s start (record { at = at; column = i })
+    passing-found l t x =
         let y : max i j ≡ i = omega arith in
-        let z : suc i ≡ max (i + 1) j = omega arith in
         record {
-          below = omega arith;
-          counted = e .0;
-          few = e .1;
-          passes = λ S n at k p q. w .passes S n at k p q ∙ ap (seekFrom S n at k bits) y ∙ g S n at k p q ∙ ap (seekFrom S n at k bits) z;
+          passes = λ S n place k p q. w .passes S n place k p q ∙ ap (seekFrom S n (place + (at - start)) k bits) y;
+          forward = w .forward;
+          inside = w .inside;
+          most = omega arith;
+          has = λ _. t;
+          sized = λ _. x;
         }
 
-    -- one without a field
-    pub looking-none : j ≤ i → dataHas u cs bits 0 (getD (dataMarks u cs) i noMark) ≡ false → Looking u cs bits j (i + 1) bit′
-    looking-none l t =
-        looking-past l
-        (λ S n at k p q.
-        seek-none S n at k bits i (rw p h)
-        (rw (p, q) t))
-
-    -- one whose field has no bytes
-    pub looking-empty :
-        j ≤ i → dataHas u cs bits 0 (getD (dataMarks u cs) i noMark) ≡ true → isVariable (getD cs i noColumn) ≡ false → width (getD cs i noColumn) ≡ 0 →
-        Looking u cs bits j (i + 1) bit′
-    looking-empty l t v x =
-        looking-past l
-        (λ S n at k p q. seek-empty S n at k bits i (rw p h) (rw (p, q) t) (rw p v) (rw p x))
-
-  -- the field that is found
-  pub looking-found :
-      {i bit : ℕ} → Looking u cs bits j i bit → i < length cs → j ≤ i → dataHas u cs bits 0 (getD (dataMarks u cs) i noMark) ≡ true →
-      (isVariable (getD cs i noColumn) ≡ false → 0 < width (getD cs i noColumn)) → NextField u cs bits j i
-  looking-found {i} w h l t x =
-      let y : max i j ≡ i = omega arith in
+  -- all columns
+  pub passing-end :
+      {i bit at : ℕ} → Passing u cs bits j s start i bit at → (c : ℕ) → c ≡ length cs → c ≤ i → FieldsPassed u cs bits j s start (record { at = at; column = c })
+  passing-end {i} {bit} {at} w c z l =
       record {
-        passes = λ S n at k p q. w .passes S n at k p q ∙ ap (seekFrom S n at k bits) y;
-        most = omega arith;
-        has = λ _. t;
-        sized = λ _. x;
-      }
-
-  -- none is
-  pub looking-end : {i bit : ℕ} → Looking u cs bits j i bit → (c : ℕ) → c ≡ length cs → c ≤ i → NextField u cs bits j c
-  looking-end {i} w c z l =
-      record {
-        passes = λ S n at k p q.
-            w .passes S n at k p q
-            ∙ seek-past S n at k bits (max i j) (rw p (omega arith))
-            ∙ sym (seek-past S n at k bits c (rw p (omega arith)));
+        passes = λ S n place k p q.
+            w .passes S n place k p q
+            ∙ seek-past S n (place + (at - start)) k bits (max i j) (rw p (omega arith))
+            ∙ sym (seek-past S n (place + (at - start)) k bits c (rw p (omega arith)));
+        forward = w .forward;
+        inside = w .inside;
         most = omega arith;
         has = λ g. absurd (omega arith);
         sized = λ g. absurd (omega arith);
       }
 
+-- A field comes next at column i, from column j on: it has bytes, or a length in front of it.
+pub record Comes (u : Bool) (cs : List Column) (bits : Bytes) (j i : ℕ) : Type 0 where
+  pub asked : j ≤ i
+  pub has : dataHas u cs bits 0 (getD (dataMarks u cs) i noMark) ≡ true
+  pub sized : isVariable (getD cs i noColumn) ≡ false → 0 < width (getD cs i noColumn)
+
 -- What the test of one column says.
-module _ (u : Bool) (cs : List Column) (bits : Bytes) (j : ℕ) {i bit : ℕ} (w : Looking u cs bits j i bit) (h : i < length cs) (half : ℕ) (l : half ≡ min (updateBytes cs) (length bits)) (c : Column) (e : c ≡ getD cs i noColumn) (r : Bool)
+module _ (u : Bool) (cs : List Column) (bits : Bytes) (j : ℕ) (s : Bytes) (start : ℕ) {i bit at : ℕ} (w : Passing u cs bits j s start i bit at) (h : i < length cs) (half : ℕ) (l : half ≡ min (updateBytes cs) (length bits)) (c : Column) (e : c ≡ getD cs i noColumn) (r : Bool)
     (f : r ≡ pick (ltb i j) false (pick (pick u (carried bits (drop half bits) (mark c i)) (present bits (mark c bit))) (pick (isVariable c) true (ltb 0 (width c))) false)) where
   has-here : pick u (carried bits (drop half bits) (mark c i)) (present bits (mark c bit)) ≡ dataHas u cs bits 0 (getD (dataMarks u cs) i noMark)
   has-here = has-told u cs bits i bit half c h e (w .counted) l
@@ -206,33 +271,42 @@ module _ (u : Bool) (cs : List Column) (bits : Bytes) (j : ℕ) {i bit : ℕ} (w
   asked : r ≡ pick (ltb i j) false (pick (dataHas u cs bits 0 (getD (dataMarks u cs) i noMark)) (pick (isVariable (getD cs i noColumn)) true (ltb 0 (width (getD cs i noColumn)))) false)
   asked = f ∙ rw (has-here, e)
 
-  pub asked-found : r ≡ true → NextField u cs bits j i
-  asked-found t =
+  asked-comes : r ≡ true → Comes u cs bits j i
+  asked-comes t =
       go (ltb i j) (dataHas u cs bits 0 (getD (dataMarks u cs) i noMark)) (isVariable (getD cs i noColumn)) (ltb 0 (width (getD cs i noColumn))) refl refl refl refl (sym asked ∙ t)
     where
       go :
           (a b v x : Bool) → ltb i j ≡ a → dataHas u cs bits 0 (getD (dataMarks u cs) i noMark) ≡ b → isVariable (getD cs i noColumn) ≡ v → ltb 0 (width (getD cs i noColumn)) ≡ x →
-          pick a false (pick b (pick v true x) false) ≡ true → NextField u cs bits j i
+          pick a false (pick b (pick v true x) false) ≡ true → Comes u cs bits j i
       go true b v x p q y z k = absurd (false-true k)
       go false false v x p q y z k = absurd (false-true k)
-      go false true true x p q y z k = looking-found u cs bits j w h (ltb-false _ _ p) q (λ n. absurd (false-true (sym n ∙ y)))
-      go false true false true p q y z k = looking-found u cs bits j w h (ltb-false _ _ p) q (λ _. ltb-true _ _ z)
+      go false true true x p q y z k = record { asked = ltb-false _ _ p; has = q; sized = λ n. absurd (false-true (sym n ∙ y)) }
+      go false true false true p q y z k = record { asked = ltb-false _ _ p; has = q; sized = λ _. ltb-true _ _ z }
       go false true false false p q y z k = absurd (false-true k)
 
-  pub asked-next : r ≡ false → (bit′ : ℕ) → (bit′ ≡ bitOf cs (i + 1)) × (bit′ ≤ i + 1) → Looking u cs bits j (i + 1) bit′
+  pub asked-found : r ≡ true → FieldsPassed u cs bits j s start (record { at = at; column = i })
+  asked-found t = let d = asked-comes t in passing-found u cs bits j s start w h (d .asked) (d .has) (d .sized)
+
+  pub asked-passed :
+      r ≡ true → (bit′ : ℕ) → (bit′ ≡ bitOf cs (i + 1)) × (bit′ ≤ i + 1) → (x : Field) → ok x ≡ fieldAt c s at → Passing u cs bits j s start (i + 1) bit′ (x .end)
+  asked-passed t bit′ n x g =
+      let d = asked-comes t in
+      passing-field u cs bits j s start w h bit′ n (d .asked) (d .has) x (ap (λ (y : Column). fieldAt y s at) (sym e) ∙ sym g)
+
+  pub asked-next : r ≡ false → (bit′ : ℕ) → (bit′ ≡ bitOf cs (i + 1)) × (bit′ ≤ i + 1) → Passing u cs bits j s start (i + 1) bit′ at
   asked-next t bit′ n =
       go (ltb i j) (dataHas u cs bits 0 (getD (dataMarks u cs) i noMark)) (isVariable (getD cs i noColumn)) (ltb 0 (width (getD cs i noColumn))) refl refl refl refl (sym asked ∙ t)
     where
       go :
           (a b v x : Bool) → ltb i j ≡ a → dataHas u cs bits 0 (getD (dataMarks u cs) i noMark) ≡ b → isVariable (getD cs i noColumn) ≡ v → ltb 0 (width (getD cs i noColumn)) ≡ x →
-          pick a false (pick b (pick v true x) false) ≡ false → Looking u cs bits j (i + 1) bit′
-      go true b v x p q y z k = looking-before u cs bits j w h bit′ n (ltb-true _ _ p)
-      go false false v x p q y z k = looking-none u cs bits j w h bit′ n (ltb-false _ _ p) q
+          pick a false (pick b (pick v true x) false) ≡ false → Passing u cs bits j s start (i + 1) bit′ at
+      go true b v x p q y z k = passing-before u cs bits j s start w h bit′ n (ltb-true _ _ p)
+      go false false v x p q y z k = passing-none u cs bits j s start w h bit′ n (ltb-false _ _ p) q
       go false true true x p q y z k = absurd (false-true (sym k))
       go false true false true p q y z k = absurd (false-true (sym k))
       go false true false false p q y z k =
           let o : width (getD cs i noColumn) ≤ 0 = ltb-false _ _ z in
-          looking-empty u cs bits j w h bit′ n (ltb-false _ _ p) q y (omega arith)
+          passing-empty u cs bits j s start w h bit′ n (ltb-false _ _ p) q y (omega arith)
 
 -- where the force-null map starts
 pub half-told :
@@ -241,31 +315,57 @@ pub half-told :
 unfolding updateBytes
 half-told slots first count bits e f = e ∙ rw (f, length-slots slots first count)
 
--- The state at the column that was found.
-module _ (S : List Schema) (n at : ℕ) (k : Kind) (bits : Bytes) {u : Bool} {cs : List Column} {j i : ℕ} (f : NextField u cs bits j i) (p : columnsFor S k ≡ cs) (q : isUpdate k ≡ u) where
+-- The state at the column that comes next.
+module _ (S : List Schema) (n place : ℕ) (k : Kind) (bits : Bytes) {u : Bool} {cs : List Column} {j : ℕ} {s : Bytes} {start : ℕ} {r : Fields} (f : FieldsPassed u cs bits j s start r)
+    (p : columnsFor S k ≡ cs) (q : isUpdate k ≡ u) where
   pub found-field :
-      i < length cs → (c : Column) → c ≡ getD cs i noColumn →
-      seekFrom S n at k bits j ≡ pick (isVariable c) (keep n at [] (prefixSize c - 1) (prefix k bits i)) (skip n at (width c - 1) k bits (suc i))
-  found-field h c e = f .passes S n at k p q ∙ go (isVariable c) refl
+      (to : ℕ) → place + (r .at - start) ≡ to → r .column < length cs → (c : Column) → c ≡ getD cs (r .column) noColumn →
+      feed S (seekFrom S n place k bits j) (cut s start (r .at - start))
+      ≡ pick (isVariable c) (keep n to [] (prefixSize c - 1) (prefix k bits (r .column))) (skip n to (width c - 1) k bits (suc (r .column)))
+  found-field to z h c e = f .passes S n place k p q ∙ ap (λ (x : ℕ). seekFrom S n x k bits (r .column)) z ∙ go (isVariable c) refl
     where
-      l : i < length (columnsFor S k)
+      l : r .column < length (columnsFor S k)
       l = rw p h
 
-      has : hasFor S k bits (getD (marksFor S k) i noMark) ≡ true
+      has : hasFor S k bits (getD (marksFor S k) (r .column) noMark) ≡ true
       has = rw (p, q) (f .has h)
 
-      same : columnFor S k i ≡ c
+      same : columnFor S k (r .column) ≡ c
       same = rw p (sym e)
 
-      go : (v : Bool) → isVariable c ≡ v → seekFrom S n at k bits i ≡ pick v (keep n at [] (prefixSize c - 1) (prefix k bits i)) (skip n at (width c - 1) k bits (suc i))
-      go true v = seek-prefix S n at k bits i l has (ap isVariable same ∙ v) ∙ ap (λ (x : Column). keep n at [] (prefixSize x - 1) (prefix k bits i)) same
+      go :
+          (v : Bool) → isVariable c ≡ v →
+          seekFrom S n to k bits (r .column) ≡ pick v (keep n to [] (prefixSize c - 1) (prefix k bits (r .column))) (skip n to (width c - 1) k bits (suc (r .column)))
+      go true v =
+          seek-prefix S n to k bits (r .column) l has (ap isVariable same ∙ v) ∙ ap (λ (x : Column). keep n to [] (prefixSize x - 1) (prefix k bits (r .column))) same
       go false v =
-          let w : 0 < width (getD cs i noColumn) = f .sized h (ap isVariable (sym e) ∙ v) in
-          let y : width (columnFor S k i) ≡ width (getD cs i noColumn) = ap width (same ∙ e) in
-          seek-body S n at k bits i l has (ap isVariable same ∙ v) (omega arith) ∙ ap (λ (x : Column). skip n at (width x - 1) k bits (suc i)) same
+          let w : 0 < width (getD cs (r .column) noColumn) = f .sized h (ap isVariable (sym e) ∙ v) in
+          let y : width (columnFor S k (r .column)) ≡ width (getD cs (r .column) noColumn) = ap width (same ∙ e) in
+          seek-body S n to k bits (r .column) l has (ap isVariable same ∙ v) (omega arith) ∙ ap (λ (x : Column). skip n to (width x - 1) k bits (suc (r .column))) same
 
-  pub found-none : length cs ≤ i → seekFrom S n at k bits j ≡ between (n + adds k) at (behind k)
-  found-none h = f .passes S n at k p q ∙ seek-past S n at k bits i (rw p h)
+  pub found-none :
+      (to : ℕ) → place + (r .at - start) ≡ to → length cs ≤ r .column → feed S (seekFrom S n place k bits j) (cut s start (r .at - start)) ≡ between (n + adds k) to (behind k)
+  found-none to z h = f .passes S n place k p q ∙ ap (λ (x : ℕ). seekFrom S n x k bits (r .column)) z ∙ seek-past S n to k bits (r .column) (rw p h)
+
+-- It stands where the fields have come to.
+pub sought :
+    {S : List Schema} {s : Bytes} {r a : Reader} {place j start at to : ℕ} {st : State} → start ≤ at → at ≤ length s → place + (at - start) ≡ to →
+    feed S (seekFrom S (r .rows) place (kindIn r) (mapIn r) j) (cut s start (at - start)) ≡ st → Stands st to a → Sought S s r place j start (record { reader = a; at = at })
+sought {a = a} l i z e w = record { state = e ∙ sym (w .state); forward = l; inside = i; sane = rw z (w .sane) }
+
+-- Nothing is at hand.
+pub sought-none :
+    {S : List Schema} {s : Bytes} {r : Reader} {place j : ℕ} {m : Moved} → Sought S s r place j 0 m → length s ≡ 0 →
+    Stands (seekFrom S (r .rows) place (kindIn r) (mapIn r) j) place (m .reader)
+unfolding feed
+sought-none {S} {s} {r} {place} {j} {m} w z =
+    let x : m .at ≡ 0 = omega (arith, w .inside) in
+    let y : place + (m .at - 0) ≡ place = omega arith in
+    let v : m .at - 0 ≡ 0 = omega arith in
+    record {
+      state = sym (w .state) ∙ ap (λ (n : ℕ). feed S (seekFrom S (r .rows) place (kindIn r) (mapIn r) j) (cut s 0 n)) v;
+      sane = rw y at (w .sane);
+    }
 
 -- The columns of row data stand in the slots of their schema.
 or-low : (ss : List Schema) (id : ℕ) → 1 ≤ length ss → or0 (childNumber ss id) < length ss

@@ -21,109 +21,86 @@ use Rattle.grammar.specs.Reader.{Token, parentToken, childToken, changeToken, d
 use Rattle.section.specs.Heads.{HeadAt, doneHead, deleteHead, dataHead, headBy, headAt, beforeIn}
 use Rattle.section.specs.Passes.{addsBy, behindBy, Passes}
 use Rattle.section.specs.Passes as passes
+use Rattle.section.proofs.RowsByHead.{HeadTold, told-delete, told-parent, told-child, told-change, head-told}
 use Rattle.section.proofs.Scanning.{child-slot}
 use Rattle.feeding.specs.Machine.{State, feed}
 use Rattle.feeding.specs.Machine as M
 use Rattle.feeding.proofs.Fed.{feed-append}
-use Rattle.feeding.proofs.Bulk.{cut-two, data-ends, parent-quick, child-quick, change-quick}
+use Rattle.feeding.proofs.Bulk.{cut-two, data-ends, parent-quick, child-quick, change-quick, delete-quick}
 use Rattle.incremental.specs.Record.{beforeBy}
 
-not-done : {k n i s : ℕ} → doneHead ≡ dataHead k n i s → ⊥
-not-done e = let z : _≡_ {A = ℕ} 0 1 = cc in omega arith
-
-not-delete : {d k n i s : ℕ} → deleteHead d ≡ dataHead k n i s → ⊥
-not-delete e = let z : _≡_ {A = ℕ} 0 1 = cc in omega arith
-
-known-some : (at : ℕ) (o : Option ℕ) (k : ℕ) → knownChild at o ≡ ok k → o ≡ some k
-unfolding knownChild
-known-some at (some j) k e = ap (λ (x : ℕ). some x) (ok-ok e)
-known-some at none k e = absurd (bad-ok e)
-
-check-true : (t : Bool) (c o : ℕ) {u : Unit {0}} → check t c o ≡ ok u → t ≡ true
-unfolding check
-check-true true c o e = refl
-check-true false c o e = absurd (bad-ok e)
+follows-itself : (before : Before) (id : ℕ) → before ≡ after id → follows before id ≡ true
+follows-itself before id e = rw e (eq-eqb id id refl)
 
 module _ (S : List Schema) (s : Bytes) where
-  -- What a head with row data is, by its token.
-  data HeadIs (before : Before) (at : ℕ) : (kind number id start : ℕ) → Type 0 where
-    parent-head : tokenOf (getD s at 0) ≡ parentToken → HeadIs before at 1 0 0 (at + 1)
-    child-head : {k : ℕ} → tokenOf (getD s at 0) ≡ childToken → childNumber S (idAt s at) ≡ some k → HeadIs before at 2 k (idAt s at) (at + 1 + 4)
-    change-head :
-        {k : ℕ} → tokenOf (getD s at 0) ≡ changeToken → follows before (idAt s at) ≡ true → childNumber S (idAt s at) ≡ some k →
-        HeadIs before at 3 k (idAt s at) (at + 1 + 4)
-
-  abbrev HeadOf : Before → ℕ → HeadAt → Type 0
-  HeadOf before at doneHead = ⊥
-  HeadOf before at (deleteHead id) = ⊥
-  HeadOf before at (dataHead kind number id start) = HeadIs before at kind number id start
-
-  head-by :
-      (before : Before) (at : ℕ) (t : Token) {kind number id start : ℕ} → tokenOf (getD s at 0) ≡ t → headBy S s before at t ≡ ok (dataHead kind number id start) →
-      HeadIs before at kind number id start
-  unfolding headBy
-  head-by before at doneToken z e = let (u, a, b) = bind-ok (check (eqb (length s) (at + 1)) 15 (at + 1)) _ _ e in absurd (not-done (ok-ok b))
-  head-by before at parentToken z e =
-      subst (HeadOf before at) (ok-ok e) (parent-head z)
-  head-by before at childToken z e =
-      let (b, w, f) = bind-ok (whole s (at + 1) 4) _ _ e in
-      let (k, c, g) = bind-ok (knownChild at (childNumber S (idAt s at))) _ _ f in
-      let y : at + 1 + 4 ≡ b = omega (arith, whole-ok s (at + 1) 4 b w .0 .ends, whole-ok s (at + 1) 4 b w .1) in
-      subst (HeadOf before at) (ok-ok g)
-      (subst (λ (x : ℕ). HeadIs before at 2 k (idAt s at) x) y (child-head z (known-some at (childNumber S (idAt s at)) k c)))
-  head-by before at changeToken z e =
-      let (b, w, f) = bind-ok (whole s (at + 1) 4) _ _ e in
-      let (u, c, g) = bind-ok (check (follows before (idAt s at)) 11 at) _ _ f in
-      let (k, d, h) = bind-ok (knownChild at (childNumber S (idAt s at))) _ _ g in
-      let y : at + 1 + 4 ≡ b = omega (arith, whole-ok s (at + 1) 4 b w .0 .ends, whole-ok s (at + 1) 4 b w .1) in
-      subst (HeadOf before at) (ok-ok h)
-      (subst (λ (x : ℕ). HeadIs before at 3 k (idAt s at) x) y
-      (change-head z (check-true (follows before (idAt s at)) 11 at c) (known-some at (childNumber S (idAt s at)) k d)))
-  head-by before at deleteToken z e =
-      let (b, w, f) = bind-ok (whole s (at + 1) 4) _ _ e in
-      let (u, c, g) = bind-ok (check (follows before (idAt s at)) 11 at) _ _ f in
-      absurd (not-delete (ok-ok g))
-  head-by before at unknownToken z e = absurd (bad-ok e)
-
-  head-is :
-      (before : Before) (at : ℕ) {kind number id start : ℕ} → headAt S s before at ≡ ok (dataHead kind number id start) → (at < length s) × HeadIs before at kind number id start
-  unfolding headAt
-  head-is before at e =
-      let (b, w, f) = bind-ok (whole s at 1) _ _ e in
-      (omega (arith, whole-ok s at 1 b w .0 .ends, whole-ok s at 1 b w .0 .inside, whole-ok s at 1 b w .1), head-by before at (tokenOf (getD s at 0)) refl f)
-
   -- One element: where it ends, and what the machine makes of it.
-  record Element (before : Before) (at kind id e : ℕ) : Type 0 where
+  record Element (before : Before) (at rows e : ℕ) (behind : Before) : Type 0 where
     further : at < e
     inside : e ≤ length s
-    fed : (d n : ℕ) → feed S (M.between n (d + at) before) (cut s at (e - at)) ≡ M.between (n + addsBy kind) (d + e) (behindBy kind id)
+    fed : (d n : ℕ) → feed S (M.between n (d + at) before) (cut s at (e - at)) ≡ M.between (n + rows) (d + e) behind
 
   element-of :
-      (before : Before) (at : ℕ) {kind number id start e : ℕ} → at < length s → HeadIs before at kind number id start →
-      dataEnd (eqb kind 3) (columnsAt S number) s start ≡ ok e → Element before at kind id e
-  element-of before at {e = e} l (parent-head t) h =
+      (before : Before) (at : ℕ) {kind number id start e : ℕ} → HeadTold S s before at (dataHead kind number id start) → dataEnd (eqb kind 3) (columnsAt S number) s start ≡ ok e →
+      Element before at (addsBy kind) e (behindBy kind id)
+  element-of before at {e = e} (told-parent t l) h =
       let (a, b) = data-ends S s 0 0 false (columnsAt S 0) (at + 1) e h in
-      record { further = omega arith; inside = b; fed = λ d n. parent-quick S s d n at e before l t h }
-  element-of before at {e = e} l (child-head {k} t c) h =
-      let z : at + 1 + 4 ≡ at + 5 = omega arith in
+      record { further = omega arith; inside = b; fed = λ d n. parent-quick S s d n at e before (omega arith) t h }
+  element-of before at {e = e} (told-child {k = k} {id = id} {start = start} t c i z l) h =
       let g : dataEnd false (columnsAt S k) s (at + 5) ≡ ok e = ap (dataEnd false (columnsAt S k) s) (sym z) ∙ h in
       let (a, b) = data-ends S s 0 0 false (columnsAt S k) (at + 5) e g in
-      record { further = omega arith; inside = b; fed = λ d n. child-quick S s d n at e k before l t c g }
-  element-of before at {e = e} l (change-head {k} t f c) h =
-      let z : at + 1 + 4 ≡ at + 5 = omega arith in
+      let y : childNumber S (idAt s at) ≡ some k = ap (childNumber S) (sym i) ∙ c in
+      record {
+        further = omega arith;
+        inside = b;
+        fed = λ d n. child-quick S s d n at e k before (omega arith) t y g ∙ ap (λ (x : ℕ). M.between (n + 1) (d + e) (after x)) (sym i);
+      }
+  element-of before at {e = e} (told-change {k = k} {id = id} {start = start} t f c i z l) h =
       let g : dataEnd true (columnsAt S k) s (at + 5) ≡ ok e = ap (dataEnd true (columnsAt S k) s) (sym z) ∙ h in
       let (a, b) = data-ends S s 0 0 true (columnsAt S k) (at + 5) e g in
-      record { further = omega arith; inside = b; fed = λ d n. change-quick S s d n at e k before l t f c g }
+      let y : childNumber S (idAt s at) ≡ some k = ap (childNumber S) (sym i) ∙ c in
+      record {
+        further = omega arith;
+        inside = b;
+        fed = λ d n. change-quick S s d n at e k before (omega arith) t (follows-itself before (idAt s at) (f ∙ ap (λ (x : ℕ). after x) i)) y g;
+      }
 
   element-here :
       (before : Before) (at : ℕ) {kind number id start e : ℕ} → headAt S s before at ≡ ok (dataHead kind number id start) →
-      dataEnd (eqb kind 3) (columnsAt S number) s start ≡ ok e → Element before at kind id e
-  element-here before at h q = let (l, x) = head-is before at h in element-of before at l x q
+      dataEnd (eqb kind 3) (columnsAt S number) s start ≡ ok e → Element before at (addsBy kind) e (behindBy kind id)
+  element-here before at h q = element-of before at (head-told S s before at _ h) q
+
+  -- an 8C element
+  deleted-of : (before : Before) (at : ℕ) {id : ℕ} → HeadTold S s before at (deleteHead id) → Element before at 0 (at + 5) other
+  deleted-of before at {id} (told-delete t f i l) =
+      record {
+        further = omega arith;
+        inside = l;
+        fed = λ d n.
+            let z : n ≡ n + 0 = omega arith in
+            delete-quick S s d n at before l t (follows-itself before (idAt s at) (f ∙ ap (λ (x : ℕ). after x) i)) ∙ ap (λ (x : ℕ). M.between x (d + (at + 5)) other) z;
+      }
+
+  deleted-here : (before : Before) (at : ℕ) {id : ℕ} → headAt S s before at ≡ ok (deleteHead id) → Element before at 0 (at + 5) other
+  deleted-here before at h = deleted-of before at (head-told S s before at _ h)
 
   -- Elements go forward, and stay inside.
   pub passes-forward : {at rows to : ℕ} {before behind : Before} → Passes S s at before rows to behind → at ≤ to
   passes-forward passes.none = omega arith
   passes-forward {before = before} (passes.next {to = to} {behind = b} p h q) = omega (arith, passes-forward p, element-here b to h q .further)
+  passes-forward (passes.deleted p h) = omega (arith, passes-forward p)
+
+  -- one more
+  element-fed :
+      {at to rows e : ℕ} {b behind : Before} (before : Before) → at ≤ to → Element b to rows e behind → (d n m : ℕ) →
+      feed S (M.between n (d + at) before) (cut s at (to - at)) ≡ M.between (n + m) (d + to) b →
+      feed S (M.between n (d + at) before) (cut s at (e - at)) ≡ M.between (n + (m + rows)) (d + e) behind
+  element-fed {at} {to} {rows} {e} {b} {behind} before l x d n m h =
+      let z : n + m + rows ≡ n + (m + rows) = omega arith in
+      ap (feed S (M.between n (d + at) before)) (cut-two s at to e l (omega (arith, x .further)) (x .inside))
+      ∙ feed-append S (M.between n (d + at) before) (cut s at (to - at)) (cut s to (e - to))
+      ∙ ap (λ (st : State). feed S st (cut s to (e - to))) h
+      ∙ x .fed d (n + m)
+      ∙ ap (λ (y : ℕ). M.between y (d + e) behind) z
 
   -- The machine comes to the same.
   pub passes-fed :
@@ -134,14 +111,13 @@ module _ (S : List Schema) (s : Bytes) where
       let z : at - at ≡ 0 = omega arith in
       let y : n ≡ n + 0 = omega arith in
       ap (λ (x : ℕ). feed S (M.between n (d + at) before) (cut s at x)) z ∙ ap (λ (x : ℕ). M.between x (d + at) before) y
-  passes-fed {at} {before = before} (passes.next {rows = m} {to = to} {kind = kind} {id = id} {e = e} {behind = b} p h q) i d n =
+  passes-fed {at} {before = before} (passes.next {rows = m} {to = to} {behind = b} p h q) i d n =
       let x = element-here b to h q in
-      let z : n + m + addsBy kind ≡ n + (m + addsBy kind) = omega arith in
-      ap (feed S (M.between n (d + at) before)) (cut-two s at to e (passes-forward p) (omega (arith, x .further)) i)
-      ∙ feed-append S (M.between n (d + at) before) (cut s at (to - at)) (cut s to (e - to))
-      ∙ ap (λ (st : State). feed S st (cut s to (e - to))) (passes-fed p (omega (arith, x .further)) d n)
-      ∙ x .fed d (n + m)
-      ∙ ap (λ (y : ℕ). M.between y (d + e) (behindBy kind id)) z
+      element-fed before (passes-forward p) x d n m (passes-fed p (omega (arith, x .further)) d n)
+  passes-fed {at} {before = before} (passes.deleted {rows = m} {to = to} {behind = b} p h) i d n =
+      let x = deleted-here b to h in
+      let z : n + (m + 0) ≡ n + m = omega arith in
+      element-fed before (passes-forward p) x d n m (passes-fed p (omega (arith, x .further)) d n) ∙ ap (λ (y : ℕ). M.between y (d + (to + 5)) other) z
 
   -- What was passed behind nothing is passed behind any element.
   head-any :
@@ -159,12 +135,20 @@ module _ (S : List Schema) (s : Bytes) where
       go deleteToken f = let (b, w, g) = bind-ok (whole s (at + 1) 4) _ _ f in absurd (bad-ok g)
       go unknownToken f = f
 
+  not-first : (at : ℕ) {id : ℕ} → HeadTold S s other at (deleteHead id) → ⊥
+  not-first at (told-delete t f i l) = let z : _≡_ {A = ℕ} 0 1 = cc in omega arith
+
   pub passes-any :
       {at rows to : ℕ} {behind : Before} → Passes S s at other rows to behind → at < to → (before : Before) → Passes S s at before rows to behind
   passes-any passes.none l before = absurd (omega arith)
   passes-any {at} (passes.next passes.none h q) l before = passes.next passes.none (head-any before at h) q
   passes-any {at} (passes.next (passes.next {to = to} {behind = b} p g r) h q) l before =
       passes.next (passes-any (passes.next p g r) (omega (arith, passes-forward p, element-here b to g r .further)) before) h q
+  passes-any {at} (passes.next (passes.deleted p g) h q) l before = passes.next (passes-any (passes.deleted p g) (omega (arith, passes-forward p)) before) h q
+  passes-any {at} (passes.deleted passes.none h) l before = absurd (not-first at (head-told S s other at _ h))
+  passes-any {at} (passes.deleted (passes.next {to = to} {behind = b} p g r) h) l before =
+      passes.deleted (passes-any (passes.next p g r) (omega (arith, passes-forward p, element-here b to g r .further)) before) h
+  passes-any {at} (passes.deleted (passes.deleted p g) h) l before = passes.deleted (passes-any (passes.deleted p g) (omega (arith, passes-forward p)) before) h
 
 -- Behind the element that the record says.
 pub passes-behind :

@@ -2,11 +2,11 @@
 -- Assumes nothing.
 use Prim.Native.Nat.{ℕ, zero, suc, _+_, _*_, _-_, _≤_, _<_, min}
 use mathlib.Core.Path.{_≡_, refl, sym, ap, _∙_}
-use mathlib.Core.List.{List, [], _∷_, _++_, map}
+use mathlib.Core.List.{List, [], _∷_, _++_, map, append-assoc, append-nil}
 use mathlib.Core.Bool.{Bool, true, false}
 use native.Mathlib.Omega.{arith}
 use native.Mathlib.Numerals.{add-one}
-use lib.ListN.{length, getD, take, drop, set}
+use lib.ListN.{length, getD, take, drop, set, length-set}
 use lib.Seq.{length-take-le, take-suc-set}
 use lib.Dec.{eqb}
 use borrow.Author.Tests.{ne-eqb}
@@ -14,9 +14,10 @@ use Rattle.wire.specs.declared.error.Error.{Error}
 use Rattle.wire.specs.declared.error.Input.{Input}
 use Rattle.wire.specs.declared.error.Input.the-variants as input
 use Rattle.wire.specs.Errors.{codeOf}
-use Rattle.wire.specs.Read.{Bytes, Read, ok, bad, check}
+use Rattle.wire.specs.Read.{Bytes, Read, ok, bad, check, cut}
 use Rattle.wire.specs.Integers.{readInt}
 use Rattle.wire.specs.Bits.{mapBytes}
+use Rattle.wire.proofs.Laws.{cut-suc}
 use Rattle.column.specs.declared.column.Column.{Column}
 use Rattle.column.specs.declared.columns.Columns.{Columns as Arrays}
 use Rattle.column.specs.Columns.{prefixSize, lengthError}
@@ -33,7 +34,8 @@ use Rattle.grammar.specs.Grammar.{Before, other}
 use Rattle.grammar.specs.Reader.{tokenOf, knownChild, follows}
 use Rattle.grammar.proofs.RowErrors.{RowErrorAt, short, chapter-bit, force-rule, length-rule, of-told, of-int, of-opened, of-update}
 use Rattle.section.proofs.HeadLaws.{number-none, number-some}
-use Rattle.feeding.specs.Machine.{Kind, parentRow, childRow, changeRow, isUpdate, columnsFor, columnFor, mapSize, childId, changeId, deleteId, maps, prefix, State, between, keep, skip, finished, stopped, settle, bodyOf, seekFrom, mapped, rowFrom, rowBy, tokened, measured, judge, byte}
+use Rattle.feeding.specs.Machine.{Kind, parentRow, childRow, changeRow, isUpdate, columnsFor, columnFor, mapSize, childId, changeId, deleteId, maps, prefix, State, between, keep, skip, finished, stopped, settle, bodyOf, seekFrom, mapped, rowFrom, rowBy, tokened, measured, judge, byte, feed}
+use Rattle.feeding.proofs.Bulk.{cut-two, keep-some, keep-all}
 use Rattle.incremental.specs.declared.record.Reader.{Reader}
 use Rattle.incremental.specs.declared.fields.Block.{Block}
 use Rattle.incremental.specs.Record.{beforeBy, kindBy, kindIn, heldIn, mapIn, stageIn, stateIn, numbers}
@@ -357,12 +359,46 @@ body-started S r at size m a c z =
 pub part-of : (bytes : Bytes) (n : ℕ) → n ≤ length bytes → (take (n - 0) (drop 0 bytes) ≡ take n bytes) × (length (take n bytes) ≡ n)
 part-of bytes n h = let z : n - 0 ≡ n = omega arith in (rw z refl, length-take-le n bytes h)
 
-pub one-behind : (bytes : Bytes) (n b : ℕ) → n < length bytes → take (n + 1) (set bytes n b) ≡ take n bytes ++ (b ∷ [])
+one-behind : (bytes : Bytes) (n b : ℕ) → n < length bytes → take (n + 1) (set bytes n b) ≡ take n bytes ++ (b ∷ [])
 one-behind bytes n b h = rw (add-one n) (take-suc-set bytes n b h)
 
--- a record of a piece with these bytes, one more than it had
-abbrev pub longer : Reader → (more : ℕ) → Bytes → Reader
-longer r more bytes =
+cut-behind : (s : Bytes) (at i : ℕ) → at + i < length s → cut s at (i + 1) ≡ cut s at i ++ (getD s (at + i) 0 ∷ [])
+cut-behind s at i h =
+    let x : at + i + 1 - at ≡ i + 1 = omega arith in
+    let y : at + i - at ≡ i = omega arith in
+    let z : at + i + 1 - (at + i) ≡ 1 = omega arith in
+    rw (x, y, z) at (cut-two s at (at + i) (at + i + 1) (omega arith) (omega arith) (omega arith)) ∙ ap (λ (l : Bytes). cut s at i ++ l) (cut-suc s (at + i) 0 h)
+
+-- Bytes kept one after the other.
+pub record Keeping (bytes : Bytes) (filled : ℕ) (s : Bytes) (at n : ℕ) (next : Bytes) (i : ℕ) : Type 0 where
+  pub few : i ≤ n
+  pub kept : take (filled + i) next ≡ take filled bytes ++ cut s at i
+  pub long : length next ≡ length bytes
+
+pub keeping-start : (bytes : Bytes) (filled : ℕ) (s : Bytes) (at n : ℕ) → Keeping bytes filled s at n bytes 0
+keeping-start bytes filled s at n =
+    let z : filled + 0 ≡ filled = omega arith in
+    record { few = omega arith; kept = rw z (sym (append-nil (take filled bytes))); long = refl }
+
+pub keeping-next :
+    {bytes : Bytes} {filled : ℕ} {s : Bytes} {at n : ℕ} {next : Bytes} {i : ℕ} → Keeping bytes filled s at n next i → i < n → at + i < length s → filled + i < length bytes →
+    Keeping bytes filled s at n (set next (filled + i) (getD s (at + i) 0)) (i + 1)
+keeping-next {bytes} {filled} {s} {at} {n} {next} {i} w f h l =
+    let z : filled + (i + 1) ≡ filled + i + 1 = omega arith in
+    record {
+      few = omega arith;
+      kept =
+          rw z
+          (one-behind next (filled + i) (getD s (at + i) 0) (omega (arith, w .long))
+          ∙ ap (λ (x : Bytes). x ++ (getD s (at + i) 0 ∷ [])) (w .kept)
+          ∙ append-assoc (take filled bytes) (cut s at i) (getD s (at + i) 0 ∷ [])
+          ∙ ap (λ (x : Bytes). take filled bytes ++ x) (sym (cut-behind s at i h)));
+      long = length-set next (filled + i) (getD s (at + i) 0) ∙ w .long;
+    }
+
+-- a record of a piece with so many bytes more
+abbrev pub longer : Reader → (n more : ℕ) → Bytes → Reader
+longer r n more bytes =
     record {
       stage = r .stage;
       code = r .code;
@@ -374,48 +410,35 @@ longer r more bytes =
       more = more;
       column = r .column;
       input = r .input;
-      filled = r .filled + 1;
+      filled = r .filled + n;
       mapped = r .mapped;
       held = bytes;
       map = r .map;
     }
 
-module _ (S : List Schema) (r : Reader) (b : ℕ) (bytes : Bytes) (s : Sane r (r .at + r .filled)) (first : 1 ≤ r .stage) (last : r .stage ≤ 5) (held : take (r .filled + 1) bytes ≡ heldIn r ++ (b ∷ [])) where
-  same-stage : (more : ℕ) → stageIn (longer r more bytes) ≡ stageIn r
+module _ (S : List Schema) (r : Reader) (x : Bytes) (n : ℕ) (bytes : Bytes) (l : length x ≡ n) (s : Sane r (r .at + r .filled)) (first : 1 ≤ r .stage) (last : r .stage ≤ 5)
+    (held : take (r .filled + n) bytes ≡ heldIn r ++ x) where
+  same-stage : (more : ℕ) → stageIn (longer r n more bytes) ≡ stageIn r
   unfolding stageIn
   same-stage more = refl
 
-  byte-whole : r .more ≡ 0 → settle (judge S (r .rows) (r .at) (heldIn r ++ (b ∷ [])) (stageIn r)) ≡ byte S (stateIn r) b
-  unfolding byte
-  byte-whole z = rw (state-piece r first last) (go (r .more) z)
-    where
-      go :
-          (m : ℕ) → m ≡ 0 →
-          settle (judge S (r .rows) (r .at) (heldIn r ++ (b ∷ [])) (stageIn r)) ≡ byte S (keep (r .rows) (r .at) (heldIn r) m (stageIn r)) b
-      go m z = rw z refl
+  pub piece-whole :
+      {a : Reader} → n ≡ r .more + 1 →
+      Stands (settle (judge S (r .rows) (r .at) (heldIn (longer r n (r .more) bytes)) (stageIn (longer r n (r .more) bytes)))) (r .at + (r .filled + n)) a →
+      Stands (feed S (stateIn r) x) (r .at + r .filled + n) a
+  piece-whole {a} z d =
+      let f : r .at + (r .filled + n) ≡ r .at + r .filled + n = omega arith in
+      rw (← f)
+      (stands-as d
+      (rw (same-stage (r .more), held, state-piece r first last) (sym (keep-all S (r .rows) (r .at) (r .more) (heldIn r) x (stageIn r) (omega arith)))))
 
-  pub byte-last :
-      {a : Reader} → r .more ≡ 0 →
-      Stands (settle (judge S (r .rows) (r .at) (heldIn (longer r (r .more) bytes)) (stageIn (longer r (r .more) bytes)))) (r .at + (r .filled + 1)) a →
-      Stands (byte S (stateIn r) b) (r .at + r .filled + 1) a
-  byte-last {a} z d =
-      let f : r .at + (r .filled + 1) ≡ r .at + r .filled + 1 = omega arith in
-      rw (← f) (stands-as d (rw (same-stage (r .more), held) (byte-whole z)))
-
-  byte-kept : (r .more ≡ 0 → ⊥) → keep (r .rows) (r .at) (heldIn r ++ (b ∷ [])) (r .more - 1) (stageIn r) ≡ byte S (stateIn r) b
-  unfolding byte
-  byte-kept z = rw (state-piece r first last) (go (r .more) z)
-    where
-      go :
-          (m : ℕ) → (m ≡ 0 → ⊥) →
-          keep (r .rows) (r .at) (heldIn r ++ (b ∷ [])) (m - 1) (stageIn r) ≡ byte S (keep (r .rows) (r .at) (heldIn r) m (stageIn r)) b
-      go zero z = absurd (z refl)
-      go (suc m) z = let y : suc m - 1 ≡ m = omega arith in rw y refl
-
-  pub byte-more : (r .more ≡ 0 → ⊥) → Stands (byte S (stateIn r) b) (r .at + r .filled + 1) (longer r (r .more - 1) bytes)
-  byte-more z =
-      let next : Reader = longer r (r .more - 1) bytes in
+  pub piece-some : n ≤ r .more → Stands (feed S (stateIn r) x) (r .at + r .filled + n) (longer r n (r .more - n) bytes)
+  piece-some z =
+      let next : Reader = longer r n (r .more - n) bytes in
       let k : r .filled + r .more ≤ 15 = s .kept first last in
       let t : 1 ≤ r .at = s .token first last in
-      stands (state-piece next first last ∙ rw (same-stage (r .more - 1), held) (byte-kept z))
+      let e : feed S (keep (r .rows) (r .at) (heldIn r) (r .more) (stageIn r)) x ≡ keep (r .rows) (r .at) (heldIn r ++ x) (r .more - n) (stageIn r) =
+      keep-some S (r .rows) (r .at) (r .more) (heldIn r) x (stageIn r) (omega arith)
+      ∙ ap (λ (m : ℕ). keep (r .rows) (r .at) (heldIn r ++ x) (r .more - m) (stageIn r)) l in
+      stands (state-piece next first last ∙ rw (same-stage (r .more - n), held, state-piece r first last) (sym e))
       (sane-piece next (s .mapped) (s .column) (s .rows) first last t (s .below first last) (omega arith)) (omega arith)

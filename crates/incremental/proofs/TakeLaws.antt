@@ -19,11 +19,11 @@ use Rattle.section.specs.Heads.{beforeIn}
 use Rattle.section.specs.Passes.{Passes}
 use Rattle.feeding.specs.Machine.{Kind, State, between, skip, finished, stopped, settle, seekFrom, tokened, byte, feed}
 use Rattle.feeding.proofs.Fed.{feed-append, feed-stopped}
-use Rattle.feeding.proofs.Bulk.{skip-some, skip-all, delete-quick}
+use Rattle.feeding.proofs.Bulk.{cut-two, skip-some, skip-all}
 use Rattle.incremental.specs.declared.record.Reader.{Reader}
-use Rattle.incremental.specs.declared.take.Moved.{Moved}
+use Rattle.incremental.specs.declared.fields.Moved.{Moved}
 use Rattle.incremental.specs.Record.{beforeBy, kindIn, mapIn, stateIn, numbers}
-use Rattle.incremental.specs.Steps.{placeIn, Sane, Came, ended, came, Stands, DeletedAt, MoveReady, ends, goes, MovedOn}
+use Rattle.incremental.specs.Steps.{placeIn, Sane, Came, ended, came, Stands, Sought, MoveReady, ends, goes, MovedOn}
 use Rattle.incremental.proofs.StateLaws.{state-between, state-body, state-finished, state-stopped, place-between, place-piece, place-late, stands, sane-between}
 use Rattle.incremental.proofs.PassLaws.{passes-fed}
 
@@ -39,6 +39,23 @@ module _ (S : List Schema) (s : Bytes) (at : ℕ) where
   -- a part and what stands behind it
   parts : (n : ℕ) → drop at s ≡ cut s at n ++ drop (at + n) s
   parts n = sym (take-append-drop n (drop at s)) ∙ ap (λ (x : Bytes). cut s at n ++ x) (drop-drop n at s)
+
+  -- A part of the fragment, whole.
+  pub moved-part :
+      (r r′ : Reader) (to : ℕ) → r .stage ≤ 7 → at < to → to ≤ length s → feed S (stateIn r) (cut s at (to - at)) ≡ stateIn r′ → Came r′ (placeIn r + (to - at)) →
+      MovedOn S s r at (record { reader = r′; at = to })
+  moved-part r r′ to g h l e c =
+      let z : at + (to - at) ≡ to = omega arith in
+      record {
+        same =
+            ap (feed S (stateIn r)) (parts (to - at))
+            ∙ feed-append S (stateIn r) (cut s at (to - at)) (drop (at + (to - at)) s)
+            ∙ ap (λ (st : State). feed S st (drop (at + (to - at)) s)) e
+            ∙ ap (λ (o : ℕ). feed S (stateIn r′) (drop o s)) z;
+        further = h;
+        inside = l;
+        sane = onward r r′ (to - at) g c;
+      }
 
   -- One byte.
   pub moved-byte :
@@ -62,11 +79,14 @@ module _ (S : List Schema) (s : Bytes) (at : ℕ) where
   moved-token r r′ e h w =
       moved-byte r r′ (omega arith) h (w .state ∙ sym (ap (λ (x : State). byte S x (getD s at 0)) (state-between r e))) (came-to (w .sane) (ap (λ (x : ℕ). x + 1) (sym (place-between r e))))
 
+  -- Bytes of a piece.
   pub moved-piece :
-      (r r′ : Reader) → 1 ≤ r .stage → r .stage ≤ 5 → at < length s → Stands (byte S (stateIn r) (getD s at 0)) (r .at + r .filled + 1) r′ →
-      MovedOn S s r at (record { reader = r′; at = at + 1 })
-  moved-piece r r′ l e h w =
-      moved-byte r r′ (omega arith) h (w .state) (came-to (w .sane) (ap (λ (x : ℕ). x + 1) (sym (place-piece r l e))))
+      (r r′ : Reader) (n : ℕ) → 1 ≤ r .stage → r .stage ≤ 5 → 1 ≤ n → at + n ≤ length s → Stands (feed S (stateIn r) (cut s at n)) (r .at + r .filled + n) r′ →
+      MovedOn S s r at (record { reader = r′; at = at + n })
+  moved-piece r r′ n l e o h w =
+      let z : n ≡ at + n - at = omega arith in
+      let y : r .at + r .filled + n ≡ placeIn r + (at + n - at) = omega (arith, place-piece r l e) in
+      moved-part r r′ (at + n) (omega arith) (omega arith) h (ap (λ (x : ℕ). feed S (stateIn r) (cut s at x)) (sym z) ∙ sym (w .state)) (came-to (w .sane) y)
 
   pub moved-done :
       (r r′ : Reader) → r .stage ≡ 7 → at < length s → Stands (stopped 15 (r .at) input.Single) (placeIn r + 1) r′ → MovedOn S s r at (record { reader = r′; at = at + 1 })
@@ -95,68 +115,33 @@ module _ (S : List Schema) (s : Bytes) (at : ℕ) where
       Passes S s at (beforeBy (r .paired) (r .id)) rows to behind →
       Stands (between (r .rows + rows) (r .at + (to - at)) behind) (r .at + (to - at)) r′ → MovedOn S s r at (record { reader = r′; at = to })
   moved-elements r r′ {rows} {to} {behind} e a h l p w =
-      let d : ℕ = r .at - at in
       let x : r .at ≡ r .at - at + at = omega arith in
       let y : r .at - at + to ≡ r .at + (to - at) = omega arith in
-      let z : at + (to - at) ≡ to = omega arith in
-      record {
-        same =
-            ap (λ (st : State). feed S st (drop at s)) (state-between r e ∙ ap (λ (o : ℕ). between (r .rows) o (beforeBy (r .paired) (r .id))) x)
-            ∙ ap (feed S (between (r .rows) (r .at - at + at) (beforeBy (r .paired) (r .id)))) (parts (to - at))
-            ∙ feed-append S (between (r .rows) (r .at - at + at) (beforeBy (r .paired) (r .id))) (cut s at (to - at)) (drop (at + (to - at)) s)
-            ∙ ap (λ (st : State). feed S st (drop (at + (to - at)) s)) (passes-fed S s p l (r .at - at) (r .rows) ∙ ap (λ (o : ℕ). between (r .rows + rows) o behind) y ∙ sym (w .state))
-            ∙ ap (λ (o : ℕ). feed S (stateIn r′) (drop o s)) z;
-        further = h;
-        inside = l;
-        sane = onward r r′ (to - at) (omega arith) (came-to (w .sane) (ap (λ (o : ℕ). o + (to - at)) (sym (place-between r e))));
-      }
+      moved-part r r′ to (omega arith) h l
+      (ap (λ (st : State). feed S st (cut s at (to - at))) (state-between r e ∙ ap (λ (o : ℕ). between (r .rows) o (beforeBy (r .paired) (r .id))) x)
+      ∙ passes-fed S s p l (r .at - at) (r .rows)
+      ∙ ap (λ (o : ℕ). between (r .rows + rows) o behind) y
+      ∙ sym (w .state))
+      (came-to (w .sane) (ap (λ (o : ℕ). o + (to - at)) (sym (place-between r e))))
 
-  -- An 8C element.
-  pub moved-deleted :
-      (r r′ : Reader) → r .stage ≡ 0 → at ≤ r .at → DeletedAt s (beforeBy (r .paired) (r .id)) at → Stands (between (r .rows) (r .at + 5) other) (r .at + 5) r′ →
-      MovedOn S s r at (record { reader = r′; at = at + 5 })
-  moved-deleted r r′ e a x w =
-      let y : r .at ≡ r .at - at + at = omega arith in
-      let z : r .at - at + (at + 5) ≡ r .at + 5 = omega arith in
-      let u : at + (at + 5 - at) ≡ at + 5 = omega arith in
-      let v : r .at + 5 ≡ placeIn r + (at + 5 - at) = omega (arith, place-between r e) in
-      record {
-        same =
-            ap (λ (st : State). feed S st (drop at s)) (state-between r e ∙ ap (λ (o : ℕ). between (r .rows) o (beforeBy (r .paired) (r .id))) y)
-            ∙ ap (feed S (between (r .rows) (r .at - at + at) (beforeBy (r .paired) (r .id)))) (parts (at + 5 - at))
-            ∙ feed-append S (between (r .rows) (r .at - at + at) (beforeBy (r .paired) (r .id))) (cut s at (at + 5 - at)) (drop (at + (at + 5 - at)) s)
-            ∙ ap (λ (st : State). feed S st (drop (at + (at + 5 - at)) s))
-            (delete-quick S s (r .at - at) (r .rows) at (beforeBy (r .paired) (r .id)) (x .fits) (x .token) (x .paired) ∙ ap (λ (o : ℕ). between (r .rows) o other) z ∙ sym (w .state))
-            ∙ ap (λ (o : ℕ). feed S (stateIn r′) (drop o s)) u;
-        further = omega arith;
-        inside = x .fits;
-        sane = onward r r′ (at + 5 - at) (omega arith) (came-to (w .sane) v);
-      }
-
-  -- All bytes of a field.
+  -- All bytes of a field, and the fields behind it that are whole.
   pub moved-body :
-      (r r′ : Reader) (place to : ℕ) → r .stage ≡ 6 → at + r .more + 1 ≤ length s → place ≡ r .at + r .more + 1 → to ≡ at + r .more + 1 →
-      Stands (seekFrom S (r .rows) place (kindIn r) (mapIn r) (r .column)) place r′ → MovedOn S s r at (record { reader = r′; at = to })
-  moved-body r r′ place to e h u v w =
-      let n : length (cut s at (r .more + 1)) ≡ r .more + 1 = cut-length s at (r .more + 1) (omega arith) in
-      let m : length (cut s at (r .more + 1)) ≡ suc (r .more) = omega arith in
-      let y : r .at + length (cut s at (r .more + 1)) ≡ place = omega arith in
-      let z : at + (r .more + 1) ≡ to = omega arith in
-      let x : place ≡ placeIn r + (to - at) = omega (arith, place-late r (omega arith)) in
-      record {
-        same =
-            ap (λ (st : State). feed S st (drop at s)) (state-body r e)
-            ∙ ap (feed S (skip (r .rows) (r .at) (r .more) (kindIn r) (mapIn r) (r .column))) (parts (r .more + 1))
-            ∙ feed-append S (skip (r .rows) (r .at) (r .more) (kindIn r) (mapIn r) (r .column)) (cut s at (r .more + 1)) (drop (at + (r .more + 1)) s)
-            ∙ ap (λ (st : State). feed S st (drop (at + (r .more + 1)) s))
-            (skip-all S (r .rows) (r .at) (r .more) (kindIn r) (mapIn r) (r .column) (cut s at (r .more + 1)) m
-            ∙ ap (λ (o : ℕ). seekFrom S (r .rows) o (kindIn r) (mapIn r) (r .column)) y
-            ∙ sym (w .state))
-            ∙ ap (λ (o : ℕ). feed S (stateIn r′) (drop o s)) z;
-        further = omega arith;
-        inside = omega arith;
-        sane = onward r r′ (to - at) (omega arith) (came-to (w .sane) x);
-      }
+      (r : Reader) (place start : ℕ) {m : Moved} → r .stage ≡ 6 → place ≡ r .at + r .more + 1 → start ≡ at + r .more + 1 → start ≤ length s →
+      Sought S s r place (r .column) start m → MovedOn S s r at m
+  moved-body r place start {m} e u v l w =
+      let x : start - at ≡ suc (r .more) = omega arith in
+      let n : length (cut s at (start - at)) ≡ start - at = cut-length s at (start - at) (omega arith) in
+      let y : r .at + length (cut s at (start - at)) ≡ place = omega arith in
+      let z : place + (m .at - start) ≡ placeIn r + (m .at - at) = omega (arith, place-late r (omega arith), w .forward) in
+      moved-part r (m .reader) (m .at) (omega arith) (omega (arith, w .forward)) (w .inside)
+      (ap (feed S (stateIn r)) (cut-two s at start (m .at) (omega arith) (w .forward) (w .inside))
+      ∙ feed-append S (stateIn r) (cut s at (start - at)) (cut s start (m .at - start))
+      ∙ ap (λ (st : State). feed S st (cut s start (m .at - start)))
+      (ap (λ (st : State). feed S st (cut s at (start - at))) (state-body r e)
+      ∙ skip-all S (r .rows) (r .at) (r .more) (kindIn r) (mapIn r) (r .column) (cut s at (start - at)) (omega arith)
+      ∙ ap (λ (o : ℕ). seekFrom S (r .rows) o (kindIn r) (mapIn r) (r .column)) y)
+      ∙ w .state)
+      (came-to (w .sane) z)
 
   -- Some of them, to the fragment's end.
   pub moved-within :
@@ -251,29 +236,3 @@ taking-ready S s reader r at t h = go (t .sane)
     go : Came r (placeIn reader + at) → MoveReady r (length s) at
     go (ended e) = ends e
     go (came w) = goes (rw (sym (w .comes)) at w) (omega (arith, w .comes)) (omega (arith, w .comes, t .inside))
-
--- An 8C element, as code sees it.
-token-delete : (b : ℕ) → b ≡ 0x8C → tokenOf b ≡ deleteToken
-unfolding tokenOf
-token-delete b e = rw e refl
-
-pub deleted-at :
-    (s : Bytes) (at paired before : ℕ) {id : ℕ} {a : Bool} → getD s at 0 ≡ 0x8C → ok id ≡ readInt s (at + 1) 4 → a ≡ follows (beforeBy paired before) id → a ≡ true →
-    DeletedAt s (beforeBy paired before) at
-unfolding readInt
-deleted-at s at paired before {id} t e f g =
-    let (b, w, v) = bind-ok (whole s (at + 1) 4) _ id (sym e) in
-    let i : id ≡ idAt s at = sym (ok-ok v) in
-    record {
-      fits = omega (arith, whole-ok s (at + 1) 4 b w .0 .ends, whole-ok s (at + 1) 4 b w .0 .inside, whole-ok s (at + 1) 4 b w .1);
-      token = token-delete (getD s at 0) t;
-      paired = ap (follows (beforeBy paired before)) (sym i) ∙ sym f ∙ g;
-    }
-
-pub between-stands : (rows at : ℕ) → rows ≤ at → Stands (between rows at other) at (numbers 0 0 0 0 0 rows at 0 0 0 [] [])
-between-stands rows at h =
-    let r : Reader = numbers 0 0 0 0 0 rows at 0 0 0 [] [] in
-    stands (state-between r refl) (sane-between r (omega arith) (omega arith) h refl) refl
-
-pub not-true : {A : Type 0} → false ≡ true → A
-not-true e = let z : _≡_ {A = ℕ} 0 1 = cc in absurd (omega arith)

@@ -6,7 +6,7 @@ use mathlib.Core.List.{List, map}
 use mathlib.Core.Bool.{Bool, true, false}
 use lib.ListN.{length, getD, drop}
 use lib.Dec.{eqb, leb}
-use Rattle.wire.specs.Read.{Bytes, ok, pick, refused}
+use Rattle.wire.specs.Read.{Bytes, ok, pick, refused, cut}
 use Rattle.column.specs.declared.column.Column.{Column}
 use Rattle.column.specs.Columns.{isVariable, width}
 use Rattle.walk.specs.Presence.{noColumn, noMark}
@@ -16,19 +16,18 @@ use Rattle.schema.specs.declared.reader.Place.{Place}
 use Rattle.schema.specs.declared.reader.PlaceRead.{PlaceRead}
 use Rattle.schema.specs.declared.reader.PlaceRead.the-variants as place
 use Rattle.tree.specs.Table.{entriesIn, schemasIn}
-use Rattle.grammar.specs.Grammar.{Before}
-use Rattle.grammar.specs.Reader.{tokenOf, deleteToken, follows, idAt}
 use Rattle.shapes.specs.Shapes.{Sound}
 use Rattle.shapes.specs.Masks.{Shaped}
 use Rattle.quick.specs.Quick.{RowStep}
 use Rattle.feeding.specs.Machine.{Kind, isUpdate, columnsFor, State, seekFrom, feed}
 use Rattle.incremental.specs.declared.record.Reader.{Reader}
 use Rattle.incremental.specs.declared.fields.Block.{Block}
-use Rattle.incremental.specs.declared.take.Moved.{Moved}
+use Rattle.incremental.specs.declared.fields.Fields.{Fields}
+use Rattle.incremental.specs.declared.fields.Moved.{Moved}
 use Rattle.feeding.specs.Feeding.{tell, fileSchemas}
 use Rattle.feeding.specs.Feeding.{Reader as Standing}
 use Rattle.incremental.specs.declared.feed.Next.{Next}
-use Rattle.incremental.specs.Record.{stateIn, recordOf}
+use Rattle.incremental.specs.Record.{kindIn, mapIn, stateIn, recordOf}
 use Rattle.incremental.specs.Calls.{toldFed}
 
 -- the number of the schema of row data of a kind
@@ -41,12 +40,17 @@ pub record Columns (slots : List ℕ) (cs : List Column) (b : Block) : Type 0 wh
   pub few : b .count ≤ 64
   pub inside : b .first + b .count ≤ 256
 
--- The first column from j on whose field has bytes, or a length in front of it. What is passed on the way moves nothing.
-pub record NextField (update : Bool) (cs : List Column) (map : Bytes) (j r : ℕ) : Type 0 where
-  pub passes : (S : List Schema) (n at : ℕ) (k : Kind) → columnsFor S k ≡ cs → isUpdate k ≡ update → seekFrom S n at k map j ≡ seekFrom S n at k map r
-  pub most : r ≤ length cs
-  pub has : r < length cs → dataHas update cs map 0 (getD (dataMarks update cs) r noMark) ≡ true
-  pub sized : r < length cs → isVariable (getD cs r noColumn) ≡ false → 0 < width (getD cs r noColumn)
+-- The fields from column j on that lie whole in a fragment s, from `start` on, were passed. The column that comes next has a field with bytes, or a length
+-- in front of it; or there is none.
+pub record FieldsPassed (update : Bool) (cs : List Column) (map : Bytes) (j : ℕ) (s : Bytes) (start : ℕ) (r : Fields) : Type 0 where
+  pub passes :
+      (S : List Schema) (n place : ℕ) (k : Kind) → columnsFor S k ≡ cs → isUpdate k ≡ update →
+      feed S (seekFrom S n place k map j) (cut s start (r .at - start)) ≡ seekFrom S n (place + (r .at - start)) k map (r .column)
+  pub forward : start ≤ r .at
+  pub inside : r .at ≤ length s
+  pub most : r .column ≤ length cs
+  pub has : r .column < length cs → dataHas update cs map 0 (getD (dataMarks update cs) (r .column) noMark) ≡ true
+  pub sized : r .column < length cs → isVariable (getD cs (r .column) noColumn) ≡ false → 0 < width (getD cs (r .column) noColumn)
 
 -- the bytes so far that the record of a state tells
 abbrev pub placeIn : Reader → ℕ
@@ -73,17 +77,18 @@ pub record Stands (st : State) (to : ℕ) (r : Reader) : Type 0 where
   pub state : stateIn r ≡ st
   pub sane : Came r to
 
+-- From column j on, at a place, over a fragment s from `start` on: the state behind the fields that it has whole.
+pub record Sought (S : List Schema) (s : Bytes) (r : Reader) (place j start : ℕ) (m : Moved) : Type 0 where
+  pub state : feed S (seekFrom S (r .rows) place (kindIn r) (mapIn r) j) (cut s start (m .at - start)) ≡ stateIn (m .reader)
+  pub forward : start ≤ m .at
+  pub inside : m .at ≤ length s
+  pub sane : Came (m .reader) (place + (m .at - start))
+
 -- what a pass over a fragment is given
 pub record Ready (slots shapes : List ℕ) (n step : ℕ) : Type 0 where
   pub sound : Sound slots n
   pub shaped : Shaped slots shapes n
   pub steps : RowStep shapes step
-
--- A whole 8C element stands at `at`, behind its 87 element.
-pub record DeletedAt (s : Bytes) (before : Before) (at : ℕ) : Type 0 where
-  pub fits : at + 5 ≤ length s
-  pub token : tokenOf (getD s at 0) ≡ deleteToken
-  pub paired : follows before (idAt s at) ≡ true
 
 -- What a move over so many bytes from `at` on is given: a refusal, or a state that has room for them.
 pub data MoveReady (r : Reader) (size at : ℕ) : Type 0 where

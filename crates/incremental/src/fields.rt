@@ -14,13 +14,15 @@ ghost use Rattle.walk.specs.Updates.{carried};
 ghost use Rattle.shapes.specs.Shapes.{Sound};
 ghost use Rattle.feeding.specs.Machine.{between, keep, skip, prefix, adds, behind, columnsFor, seekFrom};
 ghost use Rattle.incremental.specs.Record.{kindBy, kindIn, mapIn};
-ghost use Rattle.incremental.specs.Steps.{numberFor, Columns, NextField, Stands};
+ghost use Rattle.incremental.specs.Steps.{numberFor, Columns, FieldsPassed, Sought, Stands};
 use crate::record::BETWEEN;
 use crate::record::BODY;
 use crate::record::PREFIX;
 use crate::record::Reader;
 use crate::record::plain;
 use column::column::Column;
+use column::field::FieldRead;
+use column::field::field_at;
 use column::packed::unpack;
 use row::rows::is_present;
 use row::rows::one;
@@ -110,34 +112,53 @@ fn is_next(
     false
 }
 
-// The first column from `j` on whose field has bytes, or a length in front of it; their count where there is none.
-fn next_field(
+// Fields that were passed: where they end, and the column that comes next.
+pub struct Fields {
+    pub at: usize,
+    pub column: usize,
+}
+
+// Passes the fields from column `j` on that lie whole in a fragment, from `start` on: up to one that does not, or to the last column.
+fn pass_fields(
     slots: &[u64; 512],
     first: usize,
     count: usize,
     update: bool,
     bits: &[u8],
     j: usize,
-) -> usize
-    requires { ⌜ (first + count ≤ 256) × (count ≤ 64) ⌝ }
-    ensures { λ r. ⌜ NextField update (map asColumn (entriesIn first count (now (slots .entry)))) (now (bits .entry)) j r ⌝ }
+    fragment: &[u8],
+    start: usize,
+) -> Fields
+    requires { ⌜ (first + count ≤ 256) × (count ≤ 64) × (start ≤ length (now fragment)) × (length (now fragment) ≤ 16777216) ⌝ }
+    ensures { λ r. ⌜ FieldsPassed update (map asColumn (entriesIn first count (now (slots .entry)))) (now (bits .entry)) j (now (fragment .entry)) start r ⌝ }
 {
     let half = lesser(map_bytes(count), bits.len());
     let mut bit = 0;
+    let mut at = start;
     let mut i = 0;
     while i < count {
         let column = unpack(slots[first + i] as usize);
         if is_next(column, update, i, bit, bits, half, j) {
-            return i;
+            match field_at(column, fragment, at) {
+                FieldRead::Refused(_) => {
+                    return Fields { at, column: i };
+                }
+                FieldRead::Found(f) => {
+                    at = f.end;
+                    bit += one(column.is_nullable());
+                    i += 1;
+                }
+            }
+        } else {
+            bit += one(column.is_nullable());
+            i += 1;
         }
-        bit += one(column.is_nullable());
-        i += 1;
     }
-    count
+    Fields { at, column: count }
 }
 
 // The same by the maps that a record holds.
-fn next_held(
+fn pass_held(
     slots: &[u64; 512],
     first: usize,
     count: usize,
@@ -145,12 +166,23 @@ fn next_held(
     held: &[u8; 16],
     mapped: usize,
     j: usize,
-) -> usize
-    requires { ⌜ (first + count ≤ 256) × (count ≤ 64) × (mapped ≤ 16) ⌝ }
-    ensures { λ r. ⌜ NextField update (map asColumn (entriesIn first count (now (slots .entry)))) (take mapped (now (held .entry))) j r ⌝ }
+    fragment: &[u8],
+    start: usize,
+) -> Fields
+    requires { ⌜ (first + count ≤ 256) × (count ≤ 64) × (mapped ≤ 16) × (start ≤ length (now fragment)) × (length (now fragment) ≤ 16777216) ⌝ }
+    ensures { λ r. ⌜ FieldsPassed update (map asColumn (entriesIn first count (now (slots .entry)))) (take mapped (now (held .entry))) j (now (fragment .entry)) start r ⌝ }
 {
     let bytes: &[u8] = held;
-    next_field(slots, first, count, update, &bytes[0..mapped], j)
+    pass_fields(
+        slots,
+        first,
+        count,
+        update,
+        &bytes[0..mapped],
+        j,
+        fragment,
+        start,
+    )
 }
 
 // Row data of which no field is left: what stands between elements.
@@ -190,19 +222,64 @@ fn at_field(r: Reader, at: usize, i: usize, column: Column) -> Reader
     next
 }
 
-// The first field from column `j` on, where the row data have come to `at`.
-pub(crate) fn seek(slots: &[u64; 512], schemas: usize, r: Reader, at: usize, j: usize) -> Reader
-    requires { ⌜ Sound (now slots) schemas × (r .mapped ≤ 16) × (r .rows < at) × (at ≤ 16777216) ⌝ }
-    ensures { λ a. ⌜ Stands (seekFrom (schemasIn 0 schemas (now (slots .entry))) (r .rows) at (kindIn r) (mapIn r) j) at a ⌝ }
+// Where a part of a fragment led.
+pub struct Moved {
+    pub reader: Reader,
+    pub at: usize,
+}
+
+// From column `j` on, where the row data have come to `place`: passes the fields that lie whole in a fragment from `start` on. Then comes the first that
+// does not, or the row data end.
+pub(crate) fn seek_on(
+    slots: &[u64; 512],
+    schemas: usize,
+    r: Reader,
+    place: usize,
+    j: usize,
+    fragment: &[u8],
+    start: usize,
+) -> Moved
+    requires { ⌜ Sound (now slots) schemas × (r .mapped ≤ 16) × (r .rows < place) × (start ≤ length (now fragment)) × (place + (length (now fragment) - start) ≤ 16777216) × (length (now fragment) ≤ 16777216) ⌝ }
+    ensures { λ m. ⌜ Sought (schemasIn 0 schemas (now (slots .entry))) (now (fragment .entry)) r place j start m ⌝ }
 {
     let block = block_of(slots, schemas, r.kind, r.id);
     let first = block.first;
     let count = block.count;
     let mapped = r.mapped;
     let map = r.map;
-    let i = next_held(slots, first, count, r.kind == 3, &map, mapped, j);
+    let passed = pass_held(
+        slots,
+        first,
+        count,
+        r.kind == 3,
+        &map,
+        mapped,
+        j,
+        fragment,
+        start,
+    );
+    let at = passed.at;
+    let i = passed.column;
+    let to = place + (at - start);
     if i < count {
-        return at_field(r, at, i, unpack(slots[first + i] as usize));
+        return Moved {
+            reader: at_field(r, to, i, unpack(slots[first + i] as usize)),
+            at,
+        };
     }
-    row_ended(r, at)
+    Moved {
+        reader: row_ended(r, to),
+        at,
+    }
+}
+
+// The first field from column `j` on, where the row data have come to `at` and no byte of it is at hand.
+pub(crate) fn seek(slots: &[u64; 512], schemas: usize, r: Reader, at: usize, j: usize) -> Reader
+    requires { ⌜ Sound (now slots) schemas × (r .mapped ≤ 16) × (r .rows < at) × (at ≤ 16777216) ⌝ }
+    ensures { λ a. ⌜ Stands (seekFrom (schemasIn 0 schemas (now (slots .entry))) (r .rows) at (kindIn r) (mapIn r) j) at a ⌝ }
+{
+    let held = r.held;
+    let bytes: &[u8] = &held;
+    let moved = seek_on(slots, schemas, r, at, j, &bytes[0..0], 0);
+    moved.reader
 }

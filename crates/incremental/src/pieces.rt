@@ -5,6 +5,7 @@ ghost use mathlib.Core.List.{[], _∷_, _++_};
 ghost use lib.ListN.{length, getD, take};
 ghost use Rattle.wire.specs.declared.error.Input.the-variants as input;
 ghost use Rattle.wire.specs.Errors.{codeOf};
+ghost use Rattle.wire.specs.Read.{cut};
 ghost use Rattle.wire.specs.Integers.{readInt, toldInt};
 ghost use Rattle.column.specs.Columns.{prefixSize};
 ghost use Rattle.column.specs.Layout.{columnsIn};
@@ -13,7 +14,7 @@ ghost use Rattle.tree.specs.Table.{schemasIn};
 ghost use Rattle.walk.specs.Presence.{noColumn};
 ghost use Rattle.shapes.specs.Shapes.{Sound};
 ghost use Rattle.grammar.specs.Reader.{tokenOf, follows};
-ghost use Rattle.feeding.specs.Machine.{stopped, keep, settle, columnFor, mapSize, bodyOf, seekFrom, mapped, rowFrom, tokened, judge, byte, childId, changeId, deleteId, maps, prefix};
+ghost use Rattle.feeding.specs.Machine.{stopped, keep, settle, columnFor, mapSize, bodyOf, seekFrom, mapped, rowFrom, tokened, judge, feed, childId, changeId, deleteId, maps, prefix};
 ghost use Rattle.incremental.specs.Record.{beforeBy, kindBy, kindIn, heldIn, mapIn, stageIn, stateIn};
 ghost use Rattle.incremental.specs.Steps.{Columns, Sane, Stands};
 use crate::fields::block_of;
@@ -317,30 +318,41 @@ fn judge(slots: &[u64; 512], schemas: usize, r: Reader) -> Reader
     }
 }
 
-// A byte behind so many of a piece.
-fn with_byte(bytes: [u8; 16], filled: usize, b: u8) -> [u8; 16]
-    requires { ⌜ filled < 16 ⌝ }
-    ensures { λ r. ⌜ take (filled + 1) r ≡ take filled bytes ++ (b ∷ []) ⌝ }
+// So many bytes of a fragment behind those of a piece.
+fn with_bytes(bytes: [u8; 16], filled: usize, fragment: &[u8], at: usize, n: usize) -> [u8; 16]
+    requires { ⌜ (filled + n ≤ 16) × (at + n ≤ length (now fragment)) × (at ≤ 16777216) ⌝ }
+    ensures { λ r. ⌜ take (filled + n) r ≡ take filled bytes ++ cut (now (fragment .entry)) at n ⌝ }
 {
     let mut next = bytes;
-    next[filled] = b;
+    let mut i = 0;
+    while i < n {
+        next[filled + i] = fragment[at + i];
+        i += 1;
+    }
     next
 }
 
-// One more byte of a piece.
-pub(crate) fn keep_byte(slots: &[u64; 512], schemas: usize, r: Reader, b: u8) -> Reader
-    requires { ⌜ Sound (now slots) schemas × (1 ≤ r .stage) × (r .stage ≤ 5) × Sane r (r .at + r .filled) × (r .at + r .filled < 16777216) ⌝ }
-    ensures { λ a. ⌜ Stands (byte (schemasIn 0 schemas (now (slots .entry))) (stateIn r) b) (r .at + r .filled + 1) a ⌝ }
+// So many bytes more of a piece, which has room for them.
+pub(crate) fn keep_bytes(
+    slots: &[u64; 512],
+    schemas: usize,
+    r: Reader,
+    fragment: &[u8],
+    at: usize,
+    n: usize,
+) -> Reader
+    requires { ⌜ Sound (now slots) schemas × (1 ≤ r .stage) × (r .stage ≤ 5) × Sane r (r .at + r .filled) × (r .at + r .filled + n ≤ 16777216) × (1 ≤ n) × (n ≤ r .more + 1) × (at + n ≤ length (now fragment)) × (at ≤ 16777216) ⌝ }
+    ensures { λ a. ⌜ Stands (feed (schemasIn 0 schemas (now (slots .entry))) (stateIn r) (cut (now (fragment .entry)) at n)) (r .at + r .filled + n) a ⌝ }
 {
     let held = r.held;
     let filled = r.filled;
-    let more = with_byte(held, filled, b);
+    let more = with_bytes(held, filled, fragment, at, n);
     let mut next = r;
     next.held = more;
-    next.filled = filled + 1;
-    if r.more == 0 {
+    next.filled = filled + n;
+    if r.more < n {
         return judge(slots, schemas, next);
     }
-    next.more = r.more - 1;
+    next.more = r.more - n;
     next
 }

@@ -1,6 +1,5 @@
 // A fragment taken in.
 ghost use mathlib.Core.Path.{_≡_};
-ghost use mathlib.Core.Bool.{true};
 ghost use Prim.Native.Nat.{_+_, _-_, _≤_, _<_};
 ghost use lib.ListN.{length, drop};
 ghost use lib.Dec.{eqb};
@@ -10,11 +9,11 @@ ghost use Rattle.section.specs.Heads.{beforeIn};
 ghost use Rattle.tree.specs.Table.{schemasIn};
 ghost use Rattle.shapes.specs.Shapes.{Sound};
 ghost use Rattle.feeding.specs.Machine.{between, feed};
-ghost use Rattle.incremental.specs.Record.{beforeBy, stateIn};
-ghost use Rattle.incremental.specs.Steps.{Ready, Sane, MoveReady, Stands, DeletedAt, MovedOn, placeIn};
-use crate::fields::seek;
-use crate::pieces::follows;
-use crate::pieces::keep_byte;
+ghost use Rattle.incremental.specs.Record.{stateIn};
+ghost use Rattle.incremental.specs.Steps.{Ready, Sane, MoveReady, Stands, MovedOn, placeIn};
+use crate::fields::Moved;
+use crate::fields::seek_on;
+use crate::pieces::keep_bytes;
 use crate::pieces::read_token;
 use crate::pieces::stop;
 use crate::record::BETWEEN;
@@ -25,17 +24,9 @@ use crate::record::Reader;
 use crate::record::plain;
 use schema::children::child_number;
 use schema::children::id_in;
-use section::heads::DELETE;
 use section::pass::pass_elements;
 use shapes::shapes::SCHEMAS;
-use wire::integer::IntRead;
-use wire::integer::u32_at;
-
-// Where a part of a fragment led.
-pub struct Moved {
-    pub reader: Reader,
-    pub at: usize,
-}
+use wire::lesser;
 
 // The number of the schema of an 87 element directly before; 0 where there is none.
 fn child_of(slots: &[u64; 512], schemas: usize, paired: usize, id: usize) -> usize
@@ -61,20 +52,6 @@ fn behind_elements(slots: &[u64; 512], r: Reader, rows: usize, bytes: usize, chi
     next
 }
 
-// Whether a whole 8C element stands at `at`, behind its 87 element.
-fn is_deleted(r: Reader, fragment: &[u8], at: usize) -> bool
-    requires { ⌜ (at < length (now fragment)) × (at ≤ 16777216) ⌝ }
-    ensures { λ a. ⌜ (a ≡ true → DeletedAt (now (fragment .entry)) (beforeBy (r .paired) (r .id)) at) ⌝ }
-{
-    if fragment[at] != DELETE {
-        return false;
-    }
-    match u32_at(fragment, at + 1) {
-        IntRead::Refused(_) => false,
-        IntRead::Int(id) => follows(r.paired, r.id, id),
-    }
-}
-
 // Between elements: whole ones are passed, then a token is read, where there is one.
 fn from_token(
     slots: &[u64; 512],
@@ -97,30 +74,29 @@ fn from_token(
             at: to,
         };
     }
-    if is_deleted(r, fragment, at) {
-        return Moved {
-            reader: plain(BETWEEN, r.rows, r.at + 5),
-            at: at + 5,
-        };
-    }
     Moved {
         reader: read_token(slots, schemas, r.rows, r.at, r.paired, r.id, fragment[at]),
         at: at + 1,
     }
 }
 
-// The bytes of a field, as many as there are.
+// The bytes of a field, as many as there are; behind the last, the fields that are whole.
 fn over_body(slots: &[u64; 512], schemas: usize, r: Reader, fragment: &[u8], at: usize) -> Moved
-    requires { ⌜ Sound (now slots) schemas × Sane r (placeIn r) × (at < length (now fragment)) × (placeIn r + (length (now fragment) - at) ≤ 16777216) × (r .stage ≡ 6) ⌝ }
+    requires { ⌜ Sound (now slots) schemas × Sane r (placeIn r) × (at < length (now fragment)) × (at ≤ placeIn r) × (placeIn r + (length (now fragment) - at) ≤ 16777216) × (r .stage ≡ 6) ⌝ }
     ensures { λ m. ⌜ MovedOn (schemasIn 0 schemas (now (slots .entry))) (now (fragment .entry)) r at m ⌝ }
 {
     let left = fragment.len() - at;
     if r.more < left {
-        let to = r.at + r.more + 1;
-        return Moved {
-            reader: seek(slots, schemas, r, to, r.column),
-            at: at + r.more + 1,
-        };
+        let place = r.at + r.more + 1;
+        return seek_on(
+            slots,
+            schemas,
+            r,
+            place,
+            r.column,
+            fragment,
+            at + r.more + 1,
+        );
     }
     let mut next = r;
     next.at = r.at + left;
@@ -162,9 +138,10 @@ fn move_on(
             at: fragment.len(),
         };
     }
+    let n = lesser(r.more + 1, fragment.len() - at);
     Moved {
-        reader: keep_byte(slots, schemas, r, fragment[at]),
-        at: at + 1,
+        reader: keep_bytes(slots, schemas, r, fragment, at, n),
+        at: at + n,
     }
 }
 

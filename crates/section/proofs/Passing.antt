@@ -2,7 +2,7 @@
 -- Assumes nothing.
 use Prim.Native.Nat.{ℕ, zero, suc, _+_, _*_, _-_, _<_, _≤_}
 use mathlib.Core.Path.{_≡_, refl, sym, ap, _∙_}
-use mathlib.Core.List.{List}
+use mathlib.Core.List.{List, []}
 use native.Mathlib.Omega.{arith}
 use lib.ListN.{length, getD}
 use lib.Dec.{eqb}
@@ -19,14 +19,14 @@ use Rattle.quick.specs.Quick.{RowStep}
 use Rattle.grammar.specs.Grammar.{Before, other, after, columnsAt}
 use Rattle.section.specs.declared.pass.Passed.{Passed}
 use Rattle.section.specs.declared.said.Said.{Said}
-use Rattle.section.specs.Heads.{dataHead, headAt, beforeIn}
-use Rattle.section.specs.Passes.{addsBy, behindBy, Passes, none, next, PassedTo, PassedIn, InBounds}
+use Rattle.section.specs.Heads.{deleteHead, dataHead, headAt, beforeIn, pairedId}
+use Rattle.section.specs.Passes.{addsBy, behindBy, Passes, none, next, deleted, PassedTo, PassedIn, InBounds, DeletedAt}
 use Rattle.section.specs.Ends.{QuickEnd}
 use Rattle.section.specs.Runs.{Run}
 use Rattle.section.specs.Said.{SaidIn, SaidHead}
 use Rattle.section.specs.Scan.{Ready}
-use Rattle.section.proofs.HeadLaws.{head-parent}
-use Rattle.section.proofs.RowsByHead.{HeadTold, told-parent, told-child, told-change, head-told}
+use Rattle.section.proofs.HeadLaws.{head-parent, head-delete, delete-read}
+use Rattle.section.proofs.RowsByHead.{HeadTold, told-delete, told-parent, told-child, told-change, head-told}
 use Rattle.section.proofs.RunLaws.{run-more, run-less, run-few}
 use Rattle.section.proofs.Scanning.{columns-at, child-slot, step-ends}
 use Rattle.section.proofs.Turns.{said-end}
@@ -130,6 +130,17 @@ module _ {slots shapes : List ℕ} {n : ℕ} {s : Bytes} {step start first at ro
           passes = λ g. row-more slots n (a .passes g) (head g .head) (ended g) z;
         }
 
+  -- an 8C element
+  pub pass-deleted : DeletedAt slots s child at → AtPass slots shapes n s step start first (at + 5) rows 0 last
+  pass-deleted d =
+      record {
+        nested = omega (arith, a .nested);
+        remembered = a .remembered;
+        inside = d .inside;
+        few = omega (arith, a .few);
+        passes = λ g. deleted (a .passes g) (d .head (schemasIn 0 n slots));
+      }
+
   -- what is answered
   pub passed-to : InBounds n first (length s) start step → Sound slots n → Shaped slots shapes n → RowStep shapes step →
       PassedTo slots n s start first (record { rows = rows; at = at; child = child })
@@ -144,6 +155,16 @@ module _ {slots shapes : List ℕ} {n : ℕ} {s : Bytes} {step start first at ro
 
   pub passed-in : PassedIn n (length s) start first (record { rows = rows; at = at; child = child })
   passed-in = record { few = a .few; inside = λ l. a .inside; child = λ l. a .nested }
+
+-- its token, and the id of the 87 element before it
+delete-inside : {S : List Schema} {s : Bytes} {before : Before} {at id : ℕ} → HeadTold S s before at (deleteHead id) → at + 5 ≤ length s
+delete-inside (told-delete i b c l) = l
+
+pub deleted-at : {slots : List ℕ} {s : Bytes} {child at id : ℕ} → at < length s → getD s at 0 ≡ 0x8C → pairedId s (beforeIn slots child) at ≡ ok id → DeletedAt slots s child at
+deleted-at {slots} {s} {child} {at} {id} l t p = record { id = id; head = here; inside = delete-inside (head-told [] s (beforeIn slots child) at (deleteHead id) (here [])) }
+  where
+    here : (S : List Schema) → headAt S s (beforeIn slots child) at ≡ ok (deleteHead id)
+    here S = head-delete S s (beforeIn slots child) at l t ∙ delete-read [] s (beforeIn slots child) at p
 
 -- nothing is passed
 pub none-to : {slots : List ℕ} {n : ℕ} {s : Bytes} {start first : ℕ} → first < n → start ≤ length s → PassedTo slots n s start first (record { rows = 0; at = start; child = first })

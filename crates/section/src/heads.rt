@@ -69,7 +69,7 @@ fn child_head(slots: &[u64; 512], schemas: usize, section: &[u8], at: usize) -> 
 }
 
 // The child id behind a token, where it is that of the 87 element directly before, whose schema has the number `child`.
-fn paired_id(slots: &[u64; 512], section: &[u8], at: usize, child: usize) -> IntRead
+pub(crate) fn paired_id(slots: &[u64; 512], section: &[u8], at: usize, child: usize) -> IntRead
     requires { ⌜ (child < 256) × (at < length (now section)) ⌝ }
     ensures { λ r. ⌜ toldInt r ≡ pairedId (now (section .entry)) (beforeIn (now (slots .entry)) child) at ⌝ }
 {
