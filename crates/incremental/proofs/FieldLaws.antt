@@ -20,7 +20,7 @@ use Rattle.column.specs.Columns.{isVariable, isNullable, width, prefixSize}
 use Rattle.walk.specs.Presence.{noColumn, one, bitOf, Mark, noMark, mark, present}
 use Rattle.walk.specs.Updates.{updateBytes, carried, carriedIn}
 use Rattle.walk.specs.Data.{dataHas, dataMarks}
-use Rattle.walk.proofs.Laws.{mark-at, bit-zero}
+use Rattle.walk.proofs.Laws.{mark-at}
 use Rattle.walk.proofs.UpdateLaws.{number-at}
 use Rattle.walk.proofs.Data.{data-column}
 use Rattle.tree.specs.Schemas.{Schema, asColumn, childNumber, or0}
@@ -131,6 +131,7 @@ has-told false cs bits i bit half c h e b l = rw (mark-at cs i h, e, b)
 
 -- The loop over the columns: up to column i, all fields from column j on were passed.
 pub record Passing (u : Bool) (cs : List Column) (bits : Bytes) (j : ℕ) (s : Bytes) (start i bit at : ℕ) : Type 0 where
+  pub from : min j (length cs) ≤ i
   pub below : i ≤ length cs
   pub counted : bit ≡ bitOf cs i
   pub few : bit ≤ i
@@ -141,43 +142,35 @@ pub record Passing (u : Bool) (cs : List Column) (bits : Bytes) (j : ℕ) (s : B
       feed S (seekFrom S n place k bits j) (cut s start (at - start)) ≡ seekFrom S n (place + (at - start)) k bits (max i j)
 
 module _ (u : Bool) (cs : List Column) (bits : Bytes) (j : ℕ) (s : Bytes) (start : ℕ) where
-  pub passing-start : start ≤ length s → Passing u cs bits j s start 0 0 start
+  pub passing-start : (i bit : ℕ) → i ≡ min j (length cs) → (bit ≡ bitOf cs i) × (bit ≤ i) → start ≤ length s → Passing u cs bits j s start i bit start
   unfolding feed
-  passing-start l =
-      let z : max 0 j ≡ j = omega arith in
+  passing-start i bit e b l =
+      let z : max i j ≡ j = omega arith in
       let x : start - start ≡ 0 = omega arith in
       record {
+        from = omega arith;
         below = omega arith;
-        counted = sym (bit-zero cs);
-        few = omega arith;
+        counted = b .0;
+        few = b .1;
         forward = omega arith;
         inside = l;
         passes = λ S n place k e f. let y : place + 0 ≡ place = omega arith in rw (x, y, z) refl;
       }
 
   module _ {i bit at : ℕ} (w : Passing u cs bits j s start i bit at) (h : i < length cs) where
-    module _ (bit′ : ℕ) (e : (bit′ ≡ bitOf cs (i + 1)) × (bit′ ≤ i + 1)) where
-      -- a column before the one that is asked for
-      pub passing-before : i < j → Passing u cs bits j s start (i + 1) bit′ at
-      passing-before l =
-          let z : max i j ≡ max (i + 1) j = omega arith in
-          record {
-            below = omega arith;
-            counted = e .0;
-            few = e .1;
-            forward = w .forward;
-            inside = w .inside;
-            passes = λ S n place k p q. w .passes S n place k p q ∙ ap (seekFrom S n (place + (at - start)) k bits) z;
-          }
+    asked-for : j ≤ i
+    asked-for = omega (arith, w .from)
 
+    module _ (bit′ : ℕ) (e : (bit′ ≡ bitOf cs (i + 1)) × (bit′ ≤ i + 1)) where
       -- one that moves nothing
       passing-past :
-          j ≤ i → ((S : List Schema) (n place : ℕ) (k : Kind) → columnsFor S k ≡ cs → isUpdate k ≡ u → seekFrom S n place k bits i ≡ seekFrom S n place k bits (suc i)) →
+          ((S : List Schema) (n place : ℕ) (k : Kind) → columnsFor S k ≡ cs → isUpdate k ≡ u → seekFrom S n place k bits i ≡ seekFrom S n place k bits (suc i)) →
           Passing u cs bits j s start (i + 1) bit′ at
-      passing-past l g =
-          let y : max i j ≡ i = omega arith in
-          let z : suc i ≡ max (i + 1) j = omega arith in
+      passing-past g =
+          let y : max i j ≡ i = omega (arith, asked-for) in
+          let z : suc i ≡ max (i + 1) j = omega (arith, asked-for) in
           record {
+            from = omega (arith, w .from);
             below = omega arith;
             counted = e .0;
             few = e .1;
@@ -191,25 +184,26 @@ module _ (u : Bool) (cs : List Column) (bits : Bytes) (j : ℕ) (s : Bytes) (sta
           }
 
       -- one without a field
-      pub passing-none : j ≤ i → dataHas u cs bits 0 (getD (dataMarks u cs) i noMark) ≡ false → Passing u cs bits j s start (i + 1) bit′ at
-      passing-none l t = passing-past l (λ S n place k p q. seek-none S n place k bits i (rw p h) (rw (p, q) t))
+      pub passing-none : dataHas u cs bits 0 (getD (dataMarks u cs) i noMark) ≡ false → Passing u cs bits j s start (i + 1) bit′ at
+      passing-none t = passing-past (λ S n place k p q. seek-none S n place k bits i (rw p h) (rw (p, q) t))
 
       -- one whose field has no bytes
       pub passing-empty :
-          j ≤ i → dataHas u cs bits 0 (getD (dataMarks u cs) i noMark) ≡ true → isVariable (getD cs i noColumn) ≡ false → width (getD cs i noColumn) ≡ 0 →
+          dataHas u cs bits 0 (getD (dataMarks u cs) i noMark) ≡ true → isVariable (getD cs i noColumn) ≡ false → width (getD cs i noColumn) ≡ 0 →
           Passing u cs bits j s start (i + 1) bit′ at
-      passing-empty l t v x = passing-past l (λ S n place k p q. seek-empty S n place k bits i (rw p h) (rw (p, q) t) (rw p v) (rw p x))
+      passing-empty t v x = passing-past (λ S n place k p q. seek-empty S n place k bits i (rw p h) (rw (p, q) t) (rw p v) (rw p x))
 
       -- one whose field is whole
       pub passing-field :
-          j ≤ i → dataHas u cs bits 0 (getD (dataMarks u cs) i noMark) ≡ true → (f : Field) → fieldAt (getD cs i noColumn) s at ≡ ok f →
+          dataHas u cs bits 0 (getD (dataMarks u cs) i noMark) ≡ true → (f : Field) → fieldAt (getD cs i noColumn) s at ≡ ok f →
           Passing u cs bits j s start (i + 1) bit′ (f .end)
-      passing-field l t f x =
-          let y : max i j ≡ i = omega arith in
-          let z : suc i ≡ max (i + 1) j = omega arith in
+      passing-field t f x =
+          let y : max i j ≡ i = omega (arith, asked-for) in
+          let z : suc i ≡ max (i + 1) j = omega (arith, asked-for) in
           let d = field-told (getD cs i noColumn) s at x in
           let o : at ≤ f .end = omega (arith, d .starts, d .forward) in
           record {
+            from = omega (arith, w .from);
             below = omega arith;
             counted = e .0;
             few = e .1;
@@ -227,10 +221,10 @@ module _ (u : Bool) (cs : List Column) (bits : Bytes) (j : ℕ) (s : Bytes) (sta
 
     -- the field that is not
     pub passing-found :
-        j ≤ i → dataHas u cs bits 0 (getD (dataMarks u cs) i noMark) ≡ true → (isVariable (getD cs i noColumn) ≡ false → 0 < width (getD cs i noColumn)) →
+        dataHas u cs bits 0 (getD (dataMarks u cs) i noMark) ≡ true → (isVariable (getD cs i noColumn) ≡ false → 0 < width (getD cs i noColumn)) →
         FieldsPassed u cs bits j s start (record { at = at; column = i })
-    passing-found l t x =
-        let y : max i j ≡ i = omega arith in
+    passing-found t x =
+        let y : max i j ≡ i = omega (arith, asked-for) in
         record {
           passes = λ S n place k p q. w .passes S n place k p q ∙ ap (seekFrom S n (place + (at - start)) k bits) y;
           forward = w .forward;
@@ -256,57 +250,53 @@ module _ (u : Bool) (cs : List Column) (bits : Bytes) (j : ℕ) (s : Bytes) (sta
         sized = λ g. absurd (omega arith);
       }
 
--- A field comes next at column i, from column j on: it has bytes, or a length in front of it.
-pub record Comes (u : Bool) (cs : List Column) (bits : Bytes) (j i : ℕ) : Type 0 where
-  pub asked : j ≤ i
-  pub has : dataHas u cs bits 0 (getD (dataMarks u cs) i noMark) ≡ true
-  pub sized : isVariable (getD cs i noColumn) ≡ false → 0 < width (getD cs i noColumn)
-
 -- What the test of one column says.
 module _ (u : Bool) (cs : List Column) (bits : Bytes) (j : ℕ) (s : Bytes) (start : ℕ) {i bit at : ℕ} (w : Passing u cs bits j s start i bit at) (h : i < length cs) (half : ℕ) (l : half ≡ min (updateBytes cs) (length bits)) (c : Column) (e : c ≡ getD cs i noColumn) (r : Bool)
-    (f : r ≡ pick (ltb i j) false (pick (pick u (carried bits (drop half bits) (mark c i)) (present bits (mark c bit))) (pick (isVariable c) true (ltb 0 (width c))) false)) where
+    (f : r ≡ pick (pick u (carried bits (drop half bits) (mark c i)) (present bits (mark c bit))) (pick (isVariable c) true (ltb 0 (width c))) false) where
+  -- it has a field, with bytes or with a length in front of it
+  abbrev Comes : Type 0
+  Comes = (dataHas u cs bits 0 (getD (dataMarks u cs) i noMark) ≡ true) × (isVariable (getD cs i noColumn) ≡ false → 0 < width (getD cs i noColumn))
+
   has-here : pick u (carried bits (drop half bits) (mark c i)) (present bits (mark c bit)) ≡ dataHas u cs bits 0 (getD (dataMarks u cs) i noMark)
   has-here = has-told u cs bits i bit half c h e (w .counted) l
 
-  asked : r ≡ pick (ltb i j) false (pick (dataHas u cs bits 0 (getD (dataMarks u cs) i noMark)) (pick (isVariable (getD cs i noColumn)) true (ltb 0 (width (getD cs i noColumn)))) false)
+  asked : r ≡ pick (dataHas u cs bits 0 (getD (dataMarks u cs) i noMark)) (pick (isVariable (getD cs i noColumn)) true (ltb 0 (width (getD cs i noColumn)))) false
   asked = f ∙ rw (has-here, e)
 
-  asked-comes : r ≡ true → Comes u cs bits j i
+  asked-comes : r ≡ true → Comes
   asked-comes t =
-      go (ltb i j) (dataHas u cs bits 0 (getD (dataMarks u cs) i noMark)) (isVariable (getD cs i noColumn)) (ltb 0 (width (getD cs i noColumn))) refl refl refl refl (sym asked ∙ t)
+      go (dataHas u cs bits 0 (getD (dataMarks u cs) i noMark)) (isVariable (getD cs i noColumn)) (ltb 0 (width (getD cs i noColumn))) refl refl refl (sym asked ∙ t)
     where
       go :
-          (a b v x : Bool) → ltb i j ≡ a → dataHas u cs bits 0 (getD (dataMarks u cs) i noMark) ≡ b → isVariable (getD cs i noColumn) ≡ v → ltb 0 (width (getD cs i noColumn)) ≡ x →
-          pick a false (pick b (pick v true x) false) ≡ true → Comes u cs bits j i
-      go true b v x p q y z k = absurd (false-true k)
-      go false false v x p q y z k = absurd (false-true k)
-      go false true true x p q y z k = record { asked = ltb-false _ _ p; has = q; sized = λ n. absurd (false-true (sym n ∙ y)) }
-      go false true false true p q y z k = record { asked = ltb-false _ _ p; has = q; sized = λ _. ltb-true _ _ z }
-      go false true false false p q y z k = absurd (false-true k)
+          (b v x : Bool) → dataHas u cs bits 0 (getD (dataMarks u cs) i noMark) ≡ b → isVariable (getD cs i noColumn) ≡ v → ltb 0 (width (getD cs i noColumn)) ≡ x →
+          pick b (pick v true x) false ≡ true → Comes
+      go false v x q y z k = absurd (false-true k)
+      go true true x q y z k = (q, λ n. absurd (false-true (sym n ∙ y)))
+      go true false true q y z k = (q, λ _. ltb-true _ _ z)
+      go true false false q y z k = absurd (false-true k)
 
   pub asked-found : r ≡ true → FieldsPassed u cs bits j s start (record { at = at; column = i })
-  asked-found t = let d = asked-comes t in passing-found u cs bits j s start w h (d .asked) (d .has) (d .sized)
+  asked-found t = let (q, x) = asked-comes t in passing-found u cs bits j s start w h q x
 
   pub asked-passed :
       r ≡ true → (bit′ : ℕ) → (bit′ ≡ bitOf cs (i + 1)) × (bit′ ≤ i + 1) → (x : Field) → ok x ≡ fieldAt c s at → Passing u cs bits j s start (i + 1) bit′ (x .end)
   asked-passed t bit′ n x g =
-      let d = asked-comes t in
-      passing-field u cs bits j s start w h bit′ n (d .asked) (d .has) x (ap (λ (y : Column). fieldAt y s at) (sym e) ∙ sym g)
+      let (q, _) = asked-comes t in
+      passing-field u cs bits j s start w h bit′ n q x (ap (λ (y : Column). fieldAt y s at) (sym e) ∙ sym g)
 
   pub asked-next : r ≡ false → (bit′ : ℕ) → (bit′ ≡ bitOf cs (i + 1)) × (bit′ ≤ i + 1) → Passing u cs bits j s start (i + 1) bit′ at
   asked-next t bit′ n =
-      go (ltb i j) (dataHas u cs bits 0 (getD (dataMarks u cs) i noMark)) (isVariable (getD cs i noColumn)) (ltb 0 (width (getD cs i noColumn))) refl refl refl refl (sym asked ∙ t)
+      go (dataHas u cs bits 0 (getD (dataMarks u cs) i noMark)) (isVariable (getD cs i noColumn)) (ltb 0 (width (getD cs i noColumn))) refl refl refl (sym asked ∙ t)
     where
       go :
-          (a b v x : Bool) → ltb i j ≡ a → dataHas u cs bits 0 (getD (dataMarks u cs) i noMark) ≡ b → isVariable (getD cs i noColumn) ≡ v → ltb 0 (width (getD cs i noColumn)) ≡ x →
-          pick a false (pick b (pick v true x) false) ≡ false → Passing u cs bits j s start (i + 1) bit′ at
-      go true b v x p q y z k = passing-before u cs bits j s start w h bit′ n (ltb-true _ _ p)
-      go false false v x p q y z k = passing-none u cs bits j s start w h bit′ n (ltb-false _ _ p) q
-      go false true true x p q y z k = absurd (false-true (sym k))
-      go false true false true p q y z k = absurd (false-true (sym k))
-      go false true false false p q y z k =
+          (b v x : Bool) → dataHas u cs bits 0 (getD (dataMarks u cs) i noMark) ≡ b → isVariable (getD cs i noColumn) ≡ v → ltb 0 (width (getD cs i noColumn)) ≡ x →
+          pick b (pick v true x) false ≡ false → Passing u cs bits j s start (i + 1) bit′ at
+      go false v x q y z k = passing-none u cs bits j s start w h bit′ n q
+      go true true x q y z k = absurd (false-true (sym k))
+      go true false true q y z k = absurd (false-true (sym k))
+      go true false false q y z k =
           let o : width (getD cs i noColumn) ≤ 0 = ltb-false _ _ z in
-          passing-empty u cs bits j s start w h bit′ n (ltb-false _ _ p) q y (omega arith)
+          passing-empty u cs bits j s start w h bit′ n q y (omega arith)
 
 -- where the force-null map starts
 pub half-told :

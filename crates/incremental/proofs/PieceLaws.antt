@@ -23,10 +23,11 @@ use Rattle.column.specs.declared.columns.Columns.{Columns as Arrays}
 use Rattle.column.specs.Columns.{prefixSize, lengthError}
 use Rattle.column.specs.Fields.{allowed}
 use Rattle.column.specs.Layout.{layout, columnsIn}
-use Rattle.walk.specs.Presence.{noColumn, presenceBytes, nullables}
+use Rattle.walk.specs.Presence.{noColumn, presenceBytes, nullables, Mark, mark, marks, bitOf, markOf, chapterPresent, clear}
+use Rattle.walk.specs.Rows.{opened}
 use Rattle.walk.specs.Updates.{updateEnd, updateBytes}
 use Rattle.walk.specs.Data.{dataOpened}
-use Rattle.walk.proofs.Laws.{bit-all, bit-few}
+use Rattle.walk.proofs.Laws.{bit-zero, bit-all, bit-few, opened-well, bits-next, bits-end}
 use Rattle.tree.specs.Schemas.{Schema, asColumn, childNumber, or0}
 use Rattle.tree.specs.Table.{entriesIn}
 use Rattle.shapes.proofs.Slots.{inSlots, length-slots, columns-held}
@@ -108,16 +109,45 @@ module _ (slots : List ℕ) (S : List Schema) (k : Kind) (b : Block) (h : Column
       let y : mapBytes (b .count) ≤ 8 = map-most (b .count) (h .few) in
       (rw e (omega arith), omega arith)
 
-  pub size-original :
-      (m : ℕ) (packed : List Column) → isUpdate k ≡ false → packed ≡ map asColumn (entriesIn (min (b .first) 256) (min (b .count) 64) slots) →
-      m ≡ presenceBytes packed → (m ≡ mapSize S k) × (m ≤ 16)
+  pub size-original : (m bit : ℕ) → isUpdate k ≡ false → bit ≡ bitOf (inSlots slots (b .first) (b .count)) (b .count) → m ≡ mapBytes bit → (m ≡ mapSize S k) × (m ≤ 16)
   unfolding presenceBytes
-  size-original m packed e f g =
-      let x : min (b .first) 256 ≡ b .first = omega (arith, h .inside) in
-      let y : min (b .count) 64 ≡ b .count = omega (arith, h .few) in
-      let z : packed ≡ columnsFor S k = (rw (x, y) at f) ∙ sym (h .are) in
-      let n : nullables packed ≤ 64 = omega (arith, bit-all packed, bit-few packed (length packed), ap length z, columns-count, h .few) in
-      (rw (e, ← z) g, omega (arith, map-most (nullables packed) n, g))
+  size-original m bit e f g =
+      let x : bit ≡ nullables (columnsFor S k) =
+      f ∙ ap (bitOf (inSlots slots (b .first) (b .count))) (sym (length-slots slots (b .first) (b .count))) ∙ bit-all (inSlots slots (b .first) (b .count)) ∙ ap nullables (sym (h .are)) in
+      let n : bit ≤ 64 = omega (arith, f, bit-few (inSlots slots (b .first) (b .count)) (b .count), h .few) in
+      (rw (e, ← x) g, omega (arith, map-most bit n, g))
+
+  -- a presence map that was seen to keep its rules
+  pub map-opened :
+      {u : Bool} (s : Bytes) → isUpdate k ≡ u → (u ≡ false) × (opened (inSlots slots (b .first) (b .count)) s 0 ≡ ok (presenceBytes (inSlots slots (b .first) (b .count)))) →
+      dataOpened (isUpdate k) (columnsFor S k) s 0 ≡ ok (presenceBytes (inSlots slots (b .first) (b .count)))
+  map-opened {u} s e (f, g) = rw (e ∙ f, h .are) g
+
+-- A presence map, column by column.
+pub record Opening (cs : List Column) (bits : Bytes) (i bit : ℕ) : Type 0 where
+  pub below : i ≤ length cs
+  pub counted : bit ≡ bitOf cs i
+  pub few : bit ≤ i
+  pub clears : clear (chapterPresent bits) 12 0 (marks 0 cs) ≡ clear (chapterPresent bits) 12 0 (drop i (marks 0 cs))
+
+module _ (cs : List Column) (bits : Bytes) where
+  pub opening-start : Opening cs bits 0 0
+  opening-start = record { below = omega arith; counted = sym (bit-zero cs); few = omega arith; clears = refl }
+
+  pub opening-next :
+      {i bit bit′ : ℕ} {t : Bool} (c : Column) → Opening cs bits i bit → i < length cs → c ≡ getD cs i noColumn → t ≡ chapterPresent bits (mark c bit) → t ≡ false →
+      (bit′ ≡ bitOf cs (i + 1)) × (bit′ ≤ i + 1) → Opening cs bits (i + 1) bit′
+  opening-next {i} {bit} {bit′} {t} c w h e f g b =
+      let m : chapterPresent bits (markOf cs i) ≡ false = ap (λ (x : Mark). chapterPresent bits x) (rw (← e, ← w .counted) refl) ∙ sym f ∙ g in
+      record { below = omega arith; counted = b .0; few = b .1; clears = w .clears ∙ bits-next cs bits 0 i h m }
+
+  pub opening-end : {i bit : ℕ} → Opening cs bits i bit → length cs ≤ i → mapBytes bit ≤ length bits → opened cs bits 0 ≡ ok (presenceBytes cs)
+  unfolding presenceBytes
+  opening-end {i} {bit} w l r =
+      let z : i ≡ length cs = omega (arith, w .below) in
+      let x : bit ≡ nullables cs = w .counted ∙ ap (bitOf cs) z ∙ bit-all cs in
+      let y : 0 + presenceBytes cs ≡ presenceBytes cs = omega arith in
+      opened-well cs bits 0 (omega (arith, ap mapBytes x)) (w .clears ∙ bits-end cs bits 0 i l) ∙ ap (λ (v : ℕ). ok v) y
 
 -- The maps of row data.
 module _ (S : List Schema) (n start : ℕ) (bits : Bytes) (k : Kind) where

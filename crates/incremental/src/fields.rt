@@ -9,7 +9,7 @@ ghost use Rattle.wire.specs.Read.{pick};
 ghost use Rattle.tree.specs.Schemas.{asColumn};
 ghost use Rattle.tree.specs.Table.{entriesIn, schemasIn};
 ghost use Rattle.column.specs.Columns.{isVariable, prefixSize, width};
-ghost use Rattle.walk.specs.Presence.{mark, present};
+ghost use Rattle.walk.specs.Presence.{bitOf, mark, present};
 ghost use Rattle.walk.specs.Updates.{carried};
 ghost use Rattle.shapes.specs.Shapes.{Sound};
 ghost use Rattle.feeding.specs.Machine.{between, keep, skip, prefix, adds, behind, columnsFor, seekFrom};
@@ -87,22 +87,11 @@ fn has_field(column: Column, update: bool, i: usize, bit: usize, map: &[u8], hal
     is_present(column, bit, map)
 }
 
-// Whether column `i`, from column `j` on, has a field with bytes, or with a length in front of it.
-fn is_next(
-    column: Column,
-    update: bool,
-    i: usize,
-    bit: usize,
-    bits: &[u8],
-    half: usize,
-    j: usize,
-) -> bool
+// Whether column `i` has a field with bytes, or with a length in front of it.
+fn is_next(column: Column, update: bool, i: usize, bit: usize, bits: &[u8], half: usize) -> bool
     requires { ⌜ half ≤ length (now bits) ⌝ }
-    ensures { λ r. ⌜ r ≡ pick (ltb i j) false (pick (pick update (carried (now (bits .entry)) (drop half (now (bits .entry))) (mark column i)) (present (now (bits .entry)) (mark column bit))) (pick (isVariable column) true (ltb 0 (width column))) false) ⌝ }
+    ensures { λ r. ⌜ r ≡ pick (pick update (carried (now (bits .entry)) (drop half (now (bits .entry))) (mark column i)) (present (now (bits .entry)) (mark column bit))) (pick (isVariable column) true (ltb 0 (width column))) false ⌝ }
 {
-    if i < j {
-        return false;
-    }
     if has_field(column, update, i, bit, bits, half) {
         if column.is_variable() {
             return true;
@@ -110,6 +99,20 @@ fn is_next(
         return 0 < column.width();
     }
     false
+}
+
+// How many of the first `n` of `count` columns are nullable.
+pub(crate) fn bits_before(slots: &[u64; 512], first: usize, count: usize, n: usize) -> usize
+    requires { ⌜ (first + count ≤ 256) × (count ≤ 64) × (n ≤ count) ⌝ }
+    ensures { λ r. ⌜ (r ≡ bitOf (map asColumn (entriesIn first count (now (slots .entry)))) n) × (r ≤ n) ⌝ }
+{
+    let mut bit = 0;
+    let mut i = 0;
+    while i < n {
+        bit += one(unpack(slots[first + i] as usize).is_nullable());
+        i += 1;
+    }
+    bit
 }
 
 // Fields that were passed: where they end, and the column that comes next.
@@ -133,12 +136,13 @@ fn pass_fields(
     ensures { λ r. ⌜ FieldsPassed update (map asColumn (entriesIn first count (now (slots .entry)))) (now (bits .entry)) j (now (fragment .entry)) start r ⌝ }
 {
     let half = lesser(map_bytes(count), bits.len());
-    let mut bit = 0;
+    let from = lesser(j, count);
+    let mut bit = bits_before(slots, first, count, from);
     let mut at = start;
-    let mut i = 0;
+    let mut i = from;
     while i < count {
         let column = unpack(slots[first + i] as usize);
-        if is_next(column, update, i, bit, bits, half, j) {
+        if is_next(column, update, i, bit, bits, half) {
             match field_at(column, fragment, at) {
                 FieldRead::Refused(_) => {
                     return Fields { at, column: i };

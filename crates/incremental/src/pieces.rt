@@ -1,22 +1,26 @@
 // Pieces that are whole: ids, maps, lengths. Each is judged by the layer that knows it.
 ghost use mathlib.Core.Path.{_≡_};
 ghost use Prim.Native.Nat.{suc, _+_, _-_, _≤_, _<_};
-ghost use mathlib.Core.List.{[], _∷_, _++_};
+ghost use mathlib.Core.List.{[], _∷_, _++_, map};
+ghost use mathlib.Core.Bool.{true, false};
 ghost use lib.ListN.{length, getD, take};
 ghost use Rattle.wire.specs.declared.error.Input.the-variants as input;
 ghost use Rattle.wire.specs.Errors.{codeOf};
-ghost use Rattle.wire.specs.Read.{cut};
+ghost use Rattle.wire.specs.Read.{ok, cut};
 ghost use Rattle.wire.specs.Integers.{readInt, toldInt};
 ghost use Rattle.column.specs.Columns.{prefixSize};
 ghost use Rattle.column.specs.Layout.{columnsIn};
 ghost use Rattle.walk.specs.Data.{dataOpened};
-ghost use Rattle.tree.specs.Table.{schemasIn};
-ghost use Rattle.walk.specs.Presence.{noColumn};
+ghost use Rattle.tree.specs.Schemas.{asColumn};
+ghost use Rattle.tree.specs.Table.{entriesIn, schemasIn};
+ghost use Rattle.walk.specs.Presence.{noColumn, presenceBytes};
+ghost use Rattle.walk.specs.Rows.{opened};
 ghost use Rattle.shapes.specs.Shapes.{Sound};
 ghost use Rattle.grammar.specs.Reader.{tokenOf, follows};
 ghost use Rattle.feeding.specs.Machine.{stopped, keep, settle, columnFor, mapSize, bodyOf, seekFrom, mapped, rowFrom, tokened, judge, feed, childId, changeId, deleteId, maps, prefix};
 ghost use Rattle.incremental.specs.Record.{beforeBy, kindBy, kindIn, heldIn, mapIn, stageIn, stateIn};
 ghost use Rattle.incremental.specs.Steps.{Columns, Sane, Stands};
+use crate::fields::bits_before;
 use crate::fields::block_of;
 use crate::fields::seek;
 use crate::record::BETWEEN;
@@ -36,10 +40,10 @@ use column::column::LengthCheck;
 use column::columns::Columns;
 use column::field::length_at;
 use column::packed::unpack;
-use row::rows::presence_bytes;
+use row::rows::is_chapter_set;
+use row::rows::one;
 use schema::children::child_number;
 use schema::columns::columns_in;
-use schema::columns::slots_in;
 use section::heads::CHANGE;
 use section::heads::CHILD;
 use section::heads::DELETE;
@@ -76,23 +80,72 @@ fn maps_in(columns: Columns, update: bool, held: &[u8; 16], filled: usize) -> In
     open_data(columns, update, &bytes[0..filled], 0)
 }
 
+// Whether a presence map is whole and has no chapter's bit set.
+fn opens(slots: &[u64; 512], first: usize, count: usize, bits: &[u8]) -> bool
+    requires { ⌜ (first + count ≤ 256) × (count ≤ 64) ⌝ }
+    ensures { λ r. ⌜ (r ≡ true → opened (map asColumn (entriesIn first count (now (slots .entry)))) (now (bits .entry)) 0 ≡ ok (presenceBytes (map asColumn (entriesIn first count (now (slots .entry)))))) ⌝ }
+{
+    let mut bit = 0;
+    let mut i = 0;
+    while i < count {
+        let column = unpack(slots[first + i] as usize);
+        if is_chapter_set(column, bit, bits) {
+            return false;
+        }
+        bit += one(column.is_nullable());
+        i += 1;
+    }
+    map_bytes(bit) <= bits.len()
+}
+
+// Whether the maps of row data are a presence map that is seen to keep its rules, in so many bytes of a piece.
+fn is_open(
+    slots: &[u64; 512],
+    first: usize,
+    count: usize,
+    update: bool,
+    held: &[u8; 16],
+    filled: usize,
+) -> bool
+    requires { ⌜ (first + count ≤ 256) × (count ≤ 64) × (filled ≤ 16) ⌝ }
+    ensures { λ r. ⌜ (r ≡ true → (update ≡ false) × (opened (map asColumn (entriesIn first count (now (slots .entry)))) (take filled (now (held .entry))) 0 ≡ ok (presenceBytes (map asColumn (entriesIn first count (now (slots .entry))))))) × (length (take filled (now (held .entry))) ≡ filled) ⌝ }
+{
+    let bytes: &[u8] = held;
+    if update {
+        return false;
+    }
+    opens(slots, first, count, &bytes[0..filled])
+}
+
+// The fields of row data whose maps are the piece that is whole.
+fn from_maps(slots: &[u64; 512], schemas: usize, r: Reader) -> Reader
+    requires { ⌜ Sound (now slots) schemas × (r .filled ≤ 16) × (r .rows < r .at + r .filled) × (r .at + r .filled ≤ 16777216) ⌝ }
+    ensures { λ a. ⌜ Stands (seekFrom (schemasIn 0 schemas (now (slots .entry))) (r .rows) (r .at + r .filled) (kindIn r) (heldIn r) 0) (r .at + r .filled) a ⌝ }
+{
+    let held = r.held;
+    let filled = r.filled;
+    let mut row = r;
+    row.map = held;
+    row.mapped = filled;
+    seek(slots, schemas, row, r.at + filled, 0)
+}
+
 // The maps of row data are whole: their rules, then the fields.
 fn open_maps(slots: &[u64; 512], schemas: usize, r: Reader) -> Reader
     requires { ⌜ Sound (now slots) schemas × (r .filled ≤ 16) × (r .rows < r .at + r .filled) × (r .at + r .filled ≤ 16777216) ⌝ }
     ensures { λ a. ⌜ Stands (settle (mapped (schemasIn 0 schemas (now (slots .entry))) (r .rows) (r .at) (heldIn r) (kindIn r))) (r .at + r .filled) a ⌝ }
 {
     let block = block_of(slots, schemas, r.kind, r.id);
-    let columns = columns_in(slots, block.first, block.count);
+    let update = r.kind == 3;
     let held = r.held;
     let filled = r.filled;
-    match maps_in(columns, r.kind == 3, &held, filled) {
+    if is_open(slots, block.first, block.count, update, &held, filled) {
+        return from_maps(slots, schemas, r);
+    }
+    let columns = columns_in(slots, block.first, block.count);
+    match maps_in(columns, update, &held, filled) {
         IntRead::Refused(e) => stop_at(e, r.at),
-        IntRead::Int(_) => {
-            let mut row = r;
-            row.map = held;
-            row.mapped = filled;
-            seek(slots, schemas, row, r.at + filled, 0)
-        }
+        IntRead::Int(_) => from_maps(slots, schemas, r),
     }
 }
 
@@ -105,9 +158,7 @@ fn maps_size(slots: &[u64; 512], schemas: usize, kind: usize, id: usize) -> usiz
     if kind == 3 {
         return 2 * map_bytes(block.count);
     }
-    let mut columns = [0u32; 64];
-    slots_in(slots, block.first, block.count, &mut columns);
-    presence_bytes(&columns, block.count)
+    map_bytes(bits_before(slots, block.first, block.count, block.count))
 }
 
 // Row data that start at `at`; there may be no map.

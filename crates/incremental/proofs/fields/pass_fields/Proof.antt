@@ -11,27 +11,32 @@ use Rattle.incremental.proofs.fields.pass_fields.Statement.{statement}
 use Rattle.incremental.proofs.fields.pass_fields.Tie as tie
 
 abbrev Inv-loop : tie.InvT-loop
-Inv-loop slots first count update bits j fragment start half bit₀ at₀ i₀ bit at i = Passing update (inSlots slots first count) bits j fragment start i bit at
+Inv-loop slots first count update bits j fragment start half from bit₀ at₀ i₀ bit at i = Passing update (inSlots slots first count) bits j fragment start i bit at
 
 abbrev μ-loop : tie.MeasureT-loop
-μ-loop slots first count update bits j fragment start half bit₀ at₀ i₀ bit at i = count - i
+μ-loop slots first count update bits j fragment start half from bit₀ at₀ i₀ bit at i = count - i
+
+bits-before-requires : tie.Need-bits-before-requires Inv-loop μ-loop
+bits-before-requires c κs =
+    let pre = c .before .before .before .before .before .pre in
+    (pre .0, pre .1, omega (arith, c .lesser2 .ensures))
 
 loop-holds : tie.Need-loop-holds Inv-loop μ-loop
 loop-holds c =
-    let args = c .before .before .before .before .args in
-    let pre = c .before .before .before .before .pre in
-    passing-start (args .update) (inSlots (args .slots .now) (args .first) (args .count)) (args .bits .now) (args .j) (args .fragment .now) (args .start) (pre .2)
+    let args = c .before .before .before .before .before .before .args in
+    let pre = c .before .before .before .before .before .before .pre in
+    passing-start (args .update) (inSlots (args .slots .now) (args .first) (args .count)) (args .bits .now) (args .j) (args .fragment .now) (args .start) _ _ (omega (arith, c .before .lesser2 .ensures, (length-slots (args .slots .now) (args .first) (args .count)))) (c .bits-before .ensures) (pre .2)
 
 is-next-requires : tie.Need-is-next-requires Inv-loop μ-loop
 is-next-requires c κs =
-    let lesser = c .before .before .before .before .lesser in
+    let lesser = c .before .before .before .before .before .before .lesser in
     omega (arith, lesser .ensures)
 
 returns : tie.Need-returns Inv-loop μ-loop
 returns c =
-    let args = c .before .before .before .before .before .before .before .before .before .before .before .before .before .args in
-    let map-bytes = c .before .before .before .before .before .before .before .before .before .before .map-bytes in
-    let lesser = c .before .before .before .before .before .before .before .before .before .lesser in
+    let args = c .before .before .before .before .before .before .before .before .before .before .before .before .before .before .before .args in
+    let map-bytes = c .before .before .before .before .before .before .before .before .before .before .before .before .map-bytes in
+    let lesser = c .before .before .before .before .before .before .before .before .before .before .before .lesser in
     let loop = c .before .before .before .before .before .before .before .before .loop in
     let loop-test = c .before .before .before .before .before .before .before .loop-test in
     let unpack = c .before .before .before .before .before .unpack in
@@ -41,8 +46,8 @@ returns c =
 
 add-bit : tie.Need-add-bit Inv-loop μ-loop
 add-bit c =
-    let args = c .before .before .before .before .before .before .before .before .before .before .before .before .before .before .before .before .args in
-    let pre = c .before .before .before .before .before .before .before .before .before .before .before .before .before .before .before .before .pre in
+    let args = c .before .before .before .before .before .before .before .before .before .before .before .before .before .before .before .before .before .before .args in
+    let pre = c .before .before .before .before .before .before .before .before .before .before .before .before .before .before .before .before .before .before .pre in
     let loop = c .before .before .before .before .before .before .before .before .before .before .before .loop in
     let loop-test = c .before .before .before .before .before .before .before .before .before .before .loop-test in
     let unpack = c .before .before .before .before .before .before .before .before .unpack in
@@ -50,9 +55,9 @@ add-bit c =
 
 loop-again : tie.Need-loop-again Inv-loop μ-loop
 loop-again c =
-    let args = c .before .before .before .before .before .before .before .before .before .before .before .before .before .before .before .before .args in
-    let map-bytes = c .before .before .before .before .before .before .before .before .before .before .before .before .before .map-bytes in
-    let lesser = c .before .before .before .before .before .before .before .before .before .before .before .before .lesser in
+    let args = c .before .before .before .before .before .before .before .before .before .before .before .before .before .before .before .before .before .before .args in
+    let map-bytes = c .before .before .before .before .before .before .before .before .before .before .before .before .before .before .before .map-bytes in
+    let lesser = c .before .before .before .before .before .before .before .before .before .before .before .before .before .before .lesser in
     let loop = c .before .before .before .before .before .before .before .before .before .before .before .loop in
     let loop-test = c .before .before .before .before .before .before .before .before .before .before .loop-test in
     let unpack = c .before .before .before .before .before .before .before .before .unpack in
@@ -64,8 +69,8 @@ loop-again c =
 
 add-bit-2 : tie.Need-add-bit-2 Inv-loop μ-loop
 add-bit-2 c =
-    let args = c .before .before .before .before .before .before .before .before .before .before .before .before .args in
-    let pre = c .before .before .before .before .before .before .before .before .before .before .before .before .pre in
+    let args = c .before .before .before .before .before .before .before .before .before .before .before .before .before .before .args in
+    let pre = c .before .before .before .before .before .before .before .before .before .before .before .before .before .before .pre in
     let loop = c .before .before .before .before .before .before .before .loop in
     let loop-test = c .before .before .before .before .before .before .loop-test in
     let unpack = c .before .before .before .before .unpack in
@@ -73,9 +78,9 @@ add-bit-2 c =
 
 loop-again-2 : tie.Need-loop-again-2 Inv-loop μ-loop
 loop-again-2 c =
-    let args = c .before .before .before .before .before .before .before .before .before .before .before .before .args in
-    let map-bytes = c .before .before .before .before .before .before .before .before .before .map-bytes in
-    let lesser = c .before .before .before .before .before .before .before .before .lesser in
+    let args = c .before .before .before .before .before .before .before .before .before .before .before .before .before .before .args in
+    let map-bytes = c .before .before .before .before .before .before .before .before .before .before .before .map-bytes in
+    let lesser = c .before .before .before .before .before .before .before .before .before .before .lesser in
     let loop = c .before .before .before .before .before .before .before .loop in
     let loop-test = c .before .before .before .before .before .before .loop-test in
     let unpack = c .before .before .before .before .unpack in
@@ -85,7 +90,7 @@ loop-again-2 c =
 
 returns-2 : tie.Need-returns-2 Inv-loop μ-loop
 returns-2 c =
-    let args = c .before .before .before .before .before .before .args in
+    let args = c .before .before .before .before .before .before .before .before .args in
     let loop = c .before .loop in
     passing-end (args .update) (inSlots (args .slots .now) (args .first) (args .count)) (args .bits .now) (args .j) (args .fragment .now) (args .start) (loop .inv) (args .count) (sym (length-slots (args .slots .now) (args .first) (args .count))) (c .loop-test .left)
 
@@ -93,7 +98,7 @@ pub pass-fields-spec : {M : Type 1} → statement M
 pass-fields-spec =
     tie.close
     (tie.spec
-    Inv-loop μ-loop (λ c κs. search needs) (λ c κs. search needs) loop-holds (λ c. search needs) (λ c. search needs) (λ c. search needs)
-    (λ c κs. search needs) is-next-requires (λ c κs. search needs) (λ c. search needs) returns (λ c. search needs) (λ c κs. search needs)
-    (λ c κs. search needs) add-bit (λ c. search needs) (λ c. search needs) loop-again (λ c κs. search needs) (λ c κs. search needs) add-bit-2
-    (λ c. search needs) (λ c. search needs) loop-again-2 returns-2)
+    Inv-loop μ-loop (λ c κs. search needs) (λ c κs. search needs) (λ c κs. search needs) bits-before-requires loop-holds (λ c. search needs)
+    (λ c. search needs) (λ c. search needs) (λ c κs. search needs) is-next-requires (λ c κs. search needs) (λ c. search needs) returns
+    (λ c. search needs) (λ c κs. search needs) (λ c κs. search needs) add-bit (λ c. search needs) (λ c. search needs) loop-again
+    (λ c κs. search needs) (λ c κs. search needs) add-bit-2 (λ c. search needs) (λ c. search needs) loop-again-2 returns-2)
