@@ -1,4 +1,3 @@
 pub mod Answers
-pub mod Feeding
--- Inner.
 pub mod Machine
+pub mod Feeding

@@ -213,7 +213,7 @@ module _ (shapes : List ℕ) (k : ℕ) (s : Bytes) (start : ℕ) (o : AreBytes s
 
       opens : updateOpened cs s start ≡ ok (start + 2 * updateBytes cs)
       opens =
-          let m = shape .masked in
+          let m = shape .masked .forced nested in
           update-opens cs s o (shape .few) start (getD shapes (8 * k + 3) 0) (getD shapes (8 * k + 4) 0) (getD shapes (8 * k + 5) 0) (m .chapters) (m .unforced) (m .all)
           (rw (← e, ← b, ← a) keep) (rw (← b) l)
 

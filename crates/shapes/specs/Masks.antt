@@ -36,12 +36,16 @@ isNested m = isChapter (m .column)
 abbrev pub isUnforced : Mark → Bool
 isUnforced m = pick (isChapter (m .column)) true (not (isNullable (m .column)))
 
--- The four masks of schema number k, whose columns these are.
-pub record Masked (shapes : List ℕ) (k : ℕ) (cs : List Column) : Type 0 where
-  pub present : Covers (getD shapes (8 * k + 2) 0) isMarked (marks 0 cs)
+-- The three masks of update data of schema number k, whose columns these are.
+pub record Forced (shapes : List ℕ) (k : ℕ) (cs : List Column) : Type 0 where
   pub chapters : Covers (getD shapes (8 * k + 3) 0) isNested (numbered 0 cs)
   pub unforced : Covers (getD shapes (8 * k + 4) 0) isUnforced (numbered 0 cs)
   pub all : Covers (getD shapes (8 * k + 5) 0) isAny (numbered 0 cs)
+
+-- Its masks; no row of the top schema has update data.
+pub record Masked (shapes : List ℕ) (k : ℕ) (cs : List Column) : Type 0 where
+  pub present : Covers (getD shapes (8 * k + 2) 0) isMarked (marks 0 cs)
+  pub forced : 1 ≤ k → Forced shapes k cs
 
 -- What is kept of schema number k, whose columns these are; no row of the top schema has update data.
 pub record Shape (shapes : List ℕ) (k : ℕ) (cs : List Column) : Type 0 where
@@ -70,6 +74,12 @@ pub record Kept (slots : List ℕ) (n : ℕ) (entry exit : List ℕ) : Type 0 wh
 pub record BitAdded (mask i : ℕ) (on : Bool) (r : ℕ) : Type 0 where
   pub kept : (j : ℕ) → j < 64 → topBit mask j ≡ 1 → topBit r j ≡ 1
   pub added : on ≡ true → topBit r i ≡ 1
+
+-- What making those of update data leaves: them, and all other numbers.
+pub record ForcedAdded (cs : List Column) (k : ℕ) (entry exit : List ℕ) : Type 0 where
+  pub forced : Forced exit k cs
+  pub long : length exit ≡ length entry
+  pub others : (i : ℕ) → (i < 8 * k + 3) ⊎ (8 * k + 6 ≤ i) → getD exit i 0 ≡ getD entry i 0
 
 -- What making the masks of one schema leaves: those, and all other numbers.
 pub record MasksAdded (cs : List Column) (k : ℕ) (entry exit : List ℕ) : Type 0 where

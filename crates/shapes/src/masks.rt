@@ -8,7 +8,7 @@ ghost use Rattle.tree.specs.Schemas.{asColumn};
 ghost use Rattle.tree.specs.Table.{entriesIn};
 ghost use Rattle.walk.specs.Presence.{mark};
 ghost use Rattle.shapes.specs.Shapes.{bitMask};
-ghost use Rattle.shapes.specs.Masks.{BitAdded, MasksAdded, isMarked, isUnforced};
+ghost use Rattle.shapes.specs.Masks.{BitAdded, ForcedAdded, MasksAdded, isMarked, isUnforced};
 use column::column::Column;
 use column::packed::unpack;
 use row::rows::one;
@@ -58,7 +58,28 @@ fn is_unforced(column: Column) -> bool
     !column.is_nullable()
 }
 
-// The masks of schema `k`, whose columns are in `count` slots.
+// The masks of update data of schema `k`, whose columns are in `count` slots.
+fn add_forced(slots: &[u64; 512], first: usize, count: usize, k: usize, shapes: &mut [usize])
+    requires { ⌜ (first + count ≤ 256) × (count ≤ 64) × (8 * k + 8 ≤ length (now shapes)) ⌝ }
+    ensures { λ r. ⌜ ForcedAdded (map asColumn (entriesIn first count (now (slots .entry)))) k (now (shapes .entry)) (now (shapes .exit)) ⌝ }
+{
+    let mut chapters = 0;
+    let mut unforced = 0;
+    let mut all = 0;
+    let mut i = 0;
+    while i < count {
+        let column = unpack(slots[first + i] as usize);
+        chapters = with_bit(chapters, i, column.is_chapter());
+        unforced = with_bit(unforced, i, is_unforced(column));
+        all = with_bit(all, i, true);
+        i += 1;
+    }
+    shapes[8 * k + 3] = chapters;
+    shapes[8 * k + 4] = unforced;
+    shapes[8 * k + 5] = all;
+}
+
+// The masks of schema `k`, whose columns are in `count` slots. No row of the top schema has update data.
 pub(crate) fn add_masks(
     slots: &[u64; 512],
     first: usize,
@@ -70,22 +91,17 @@ pub(crate) fn add_masks(
     ensures { λ r. ⌜ MasksAdded (map asColumn (entriesIn first count (now (slots .entry)))) k (now (shapes .entry)) (now (shapes .exit)) ⌝ }
 {
     let mut present = 0;
-    let mut chapters = 0;
-    let mut unforced = 0;
-    let mut all = 0;
     let mut bit = 0;
     let mut i = 0;
     while i < count {
         let column = unpack(slots[first + i] as usize);
         present = with_bit(present, bit, is_marked(column));
-        chapters = with_bit(chapters, i, column.is_chapter());
-        unforced = with_bit(unforced, i, is_unforced(column));
-        all = with_bit(all, i, true);
         bit += one(column.is_nullable());
         i += 1;
     }
     shapes[8 * k + 2] = present;
-    shapes[8 * k + 3] = chapters;
-    shapes[8 * k + 4] = unforced;
-    shapes[8 * k + 5] = all;
+    if k == 0 {
+        return;
+    }
+    add_forced(slots, first, count, k, shapes);
 }
