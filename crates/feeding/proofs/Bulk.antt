@@ -1,26 +1,23 @@
 -- Many bytes at once: a piece, the bytes of a field, and row data that lie whole in a fragment.
 -- Assumes nothing.
-use Prim.Native.Nat.{ℕ, zero, suc, _+_, _*_, _-_, _≤_, _<_}
+use Prim.Native.Nat.{ℕ, zero, suc, _+_, _-_, _≤_, _<_}
 use mathlib.Core.List.{List, [], _∷_, _++_, append-assoc, append-nil}
 use mathlib.Core.Bool.{Bool, true, false}
 use mathlib.Core.Option.{Option, some}
 use mathlib.Core.Path.{_≡_, refl, sym, ap, _∙_}
 use native.Mathlib.Omega.{arith}
-use lib.ListN.{length, getD, take, drop}
-use lib.Dec.{eqb}
-use Rattle.wire.specs.declared.error.Input.the-variants.{Single}
+use lib.ListN.{length, getD, drop}
 use Rattle.wire.specs.Read.{Bytes, Read, ok, bad, _>>=_, pick, check, cut}
 use Rattle.wire.specs.Integers.{intAt, readInt}
 use Rattle.wire.proofs.Laws.{cut-suc, int-fits}
 use Rattle.wire.proofs.Pieces.{Piece, piece, cut-length, join, between, piece-to, bad-ok, bind-ok, ok-ok}
 use Rattle.column.specs.declared.column.Column.{Column}
 use Rattle.column.specs.declared.field.Field.{Field}
-use Rattle.column.specs.Columns.{width, isVariable, prefixSize, prefixBytes, lengthError}
+use Rattle.column.specs.Columns.{width, isVariable, prefixSize, lengthError}
 use Rattle.column.specs.Fields.{allowed, fieldAt}
 use Rattle.column.proofs.Laws.{field-told, prefix-variable, prefix-plain}
-use Rattle.walk.specs.Presence.{noColumn, Mark, noMark, presenceBytes}
+use Rattle.walk.specs.Presence.{Mark, noMark}
 use Rattle.walk.specs.Rows.{Place, place, past, step, walk}
-use Rattle.walk.specs.Updates.{updateBytes}
 use Rattle.walk.proofs.Later.{row-end-told}
 use Rattle.walk.proofs.UpdateLater.{update-past}
 use Rattle.tree.specs.Schemas.{Schema, childNumber, or0}
@@ -29,7 +26,7 @@ use Rattle.grammar.specs.Reader.{Token, parentToken, childToken, changeToken, d
 use Rattle.grammar.proofs.Ends.{row-ends, update-ends}
 use Rattle.feeding.specs.Machine as M
 use Rattle.feeding.specs.Machine.{Kind, parentRow, childRow, changeRow, behind, adds, isUpdate, columnsFor, columnFor, marksFor, hasFor, mapsSize, mapSize, from, Stage, maps, prefix, State, keep, skip, settle, bodyOf, seek, seekFrom, mapped, rowBy, rowFrom, tokened, measured, judge, byte, feed}
-use Rattle.walk.specs.Data.{dataEnd, dataOpened, dataHas, dataMarks}
+use Rattle.walk.specs.Data.{dataEnd, dataOpened, dataHas}
 use Rattle.feeding.proofs.Maps.{fieldsFrom, data-piece}
 use Rattle.feeding.proofs.Left.{walk-any, int-piece, column-left, left-rest}
 use Rattle.feeding.proofs.Fed.{feed-append, prefix-positive}

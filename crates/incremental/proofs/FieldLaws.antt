@@ -9,26 +9,26 @@ use native.Mathlib.Omega.{arith}
 use lib.ListN.{length, getD, drop, drop-of-length-le}
 use lib.Seq.{drop-cons}
 use lib.Dec.{eqb, leb, ltb}
-use borrow.Author.Tests.{eq-eqb, ne-eqb, leb-true, leb-false, le-leb, ltb-true, ltb-false}
+use borrow.Author.Tests.{leb-true, leb-false, ltb-true, ltb-false}
 use Rattle.wire.specs.Read.{Bytes, ok, pick, cut}
 use Rattle.wire.specs.Bits.{mapBytes}
 use Rattle.column.specs.declared.column.Column.{Column}
 use Rattle.column.specs.declared.field.Field.{Field}
 use Rattle.column.specs.Fields.{fieldAt}
 use Rattle.column.proofs.Laws.{field-told}
-use Rattle.column.specs.Columns.{isVariable, isNullable, width, prefixSize}
-use Rattle.walk.specs.Presence.{noColumn, one, bitOf, Mark, noMark, mark, present}
+use Rattle.column.specs.Columns.{isVariable, width, prefixSize}
+use Rattle.walk.specs.Presence.{noColumn, one, bitOf, noMark, mark, present}
 use Rattle.walk.specs.Updates.{updateBytes, carried, carriedIn}
 use Rattle.walk.specs.Data.{dataHas, dataMarks}
 use Rattle.walk.proofs.Laws.{mark-at}
 use Rattle.walk.proofs.UpdateLaws.{number-at}
 use Rattle.walk.proofs.Data.{data-column}
-use Rattle.tree.specs.Schemas.{Schema, asColumn, childNumber, or0}
-use Rattle.tree.specs.Table.{schemaSlot, startIn, countIn, schemasIn, entryIn, entriesIn}
+use Rattle.tree.specs.Schemas.{Schema, childNumber, or0}
+use Rattle.tree.specs.Table.{schemaSlot, startIn, countIn, schemasIn}
 use Rattle.tree.proofs.TableSays.{schemas-in-length}
 use Rattle.tree.proofs.Children.{child-found}
 use Rattle.shapes.specs.Shapes.{Sound, slotColumns}
-use Rattle.shapes.proofs.Slots.{inSlots, length-slots, slot-at, slot-bit}
+use Rattle.shapes.proofs.Slots.{inSlots, length-slots}
 use Rattle.section.proofs.Scanning.{columns-at}
 use Rattle.feeding.specs.Machine.{Kind, parentRow, childRow, changeRow, isUpdate, columnsFor, columnFor, marksFor, hasFor, behind, adds, prefix, State, between, keep, skip, bodyOf, seek, seekFrom, feed}
 use Rattle.feeding.proofs.Left.{marks-length}
@@ -38,7 +38,7 @@ use Rattle.incremental.specs.declared.fields.Block.{Block}
 use Rattle.incremental.specs.declared.fields.Fields.{Fields}
 use Rattle.incremental.specs.declared.fields.Moved.{Moved}
 use Rattle.incremental.specs.declared.record.Reader.{Reader}
-use Rattle.incremental.specs.Record.{kindBy, kindIn, mapIn, stateIn}
+use Rattle.incremental.specs.Record.{kindBy, kindIn, mapIn}
 use Rattle.incremental.specs.Steps.{numberFor, Columns, FieldsPassed, Sought, Stands}
 
 false-true : false ≡ true → ⊥

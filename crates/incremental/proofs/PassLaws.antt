@@ -1,24 +1,22 @@
 -- Whole elements that were passed, as the machine would have read them.
 -- Assumes nothing.
 use Prim.Native.Nat.{ℕ, zero, suc, _+_, _-_, _≤_, _<_}
-use mathlib.Core.List.{List, [], _∷_, _++_}
-use mathlib.Core.Bool.{Bool, true, false}
+use mathlib.Core.List.{List}
+use mathlib.Core.Bool.{true, false}
 use mathlib.Core.Option.{Option, none, some}
-use mathlib.Core.Path.{_≡_, refl, sym, ap, _∙_, subst}
+use mathlib.Core.Path.{_≡_, refl, sym, ap, _∙_}
 use native.Mathlib.Omega.{arith}
-use lib.ListN.{length, getD, take, drop}
+use lib.ListN.{length, getD}
 use lib.Dec.{eqb}
 use borrow.Author.Tests.{eq-eqb, ne-eqb}
-use Rattle.wire.specs.declared.error.Input.{Input}
-use Rattle.wire.specs.Read.{Bytes, Read, ok, bad, _>>=_, pick, check, cut, whole}
-use Rattle.wire.proofs.Pieces.{bad-ok, bind-ok, ok-ok, whole-ok}
-use Rattle.column.specs.declared.column.Column.{Column}
+use Rattle.wire.specs.Read.{Bytes, ok, pick, check, cut, whole}
+use Rattle.wire.proofs.Pieces.{bad-ok, bind-ok}
 use Rattle.walk.specs.Data.{dataEnd}
 use Rattle.tree.specs.Schemas.{Schema, childNumber, or0}
-use Rattle.tree.specs.Table.{schemaSlot, idIn, schemasIn}
+use Rattle.tree.specs.Table.{schemasIn}
 use Rattle.grammar.specs.Grammar.{Before, other, after, columnsAt}
-use Rattle.grammar.specs.Reader.{Token, parentToken, childToken, changeToken, deleteToken, doneToken, unknownToken, tokenOf, knownChild, follows, idAt}
-use Rattle.section.specs.Heads.{HeadAt, doneHead, deleteHead, dataHead, headBy, headAt, beforeIn}
+use Rattle.grammar.specs.Reader.{Token, parentToken, childToken, changeToken, deleteToken, doneToken, unknownToken, tokenOf, follows, idAt}
+use Rattle.section.specs.Heads.{deleteHead, dataHead, headBy, headAt, beforeIn}
 use Rattle.section.specs.Passes.{addsBy, behindBy, Passes}
 use Rattle.section.specs.Passes as passes
 use Rattle.section.proofs.RowsByHead.{HeadTold, told-delete, told-parent, told-child, told-change, head-told}

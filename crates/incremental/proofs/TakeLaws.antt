@@ -1,28 +1,26 @@
 -- Moves over a fragment: what is left of it leads to the same state.
 -- Assumes nothing.
 use Prim.Native.Nat.{ℕ, zero, suc, _+_, _-_, _≤_, _<_}
-use mathlib.Core.List.{List, [], _∷_, _++_}
-use mathlib.Core.Bool.{Bool, true, false}
+use mathlib.Core.List.{List, _++_}
 use mathlib.Core.Path.{_≡_, refl, sym, ap, _∙_, subst}
 use native.Mathlib.Omega.{arith}
-use lib.ListN.{length, getD, take, drop, length-drop, take-append-drop}
+use lib.ListN.{length, getD, drop, length-drop, take-append-drop}
 use lib.Seq.{drop-cons, drop-drop, drop-length}
 use Rattle.wire.specs.declared.error.Input.the-variants as input
-use Rattle.wire.specs.Read.{Bytes, ok, whole, cut}
-use Rattle.wire.specs.Integers.{readInt}
-use Rattle.wire.proofs.Pieces.{cut-length, bind-ok, ok-ok, whole-ok}
+use Rattle.wire.specs.Read.{Bytes, whole, cut}
+use Rattle.wire.proofs.Pieces.{cut-length}
 use Rattle.tree.specs.Schemas.{Schema}
 use Rattle.tree.specs.Table.{schemaSlot, idIn}
-use Rattle.grammar.specs.Grammar.{Before, other, after}
-use Rattle.grammar.specs.Reader.{deleteToken, tokenOf, follows, idAt}
+use Rattle.grammar.specs.Grammar.{Before, after}
+use Rattle.grammar.specs.Reader.{tokenOf}
 use Rattle.section.specs.Heads.{beforeIn}
 use Rattle.section.specs.Passes.{Passes}
-use Rattle.feeding.specs.Machine.{Kind, State, between, skip, finished, stopped, settle, seekFrom, tokened, byte, feed}
+use Rattle.feeding.specs.Machine.{State, between, skip, stopped, settle, seekFrom, tokened, byte, feed}
 use Rattle.feeding.proofs.Fed.{feed-append, feed-stopped}
 use Rattle.feeding.proofs.Bulk.{cut-two, skip-some, skip-all}
 use Rattle.incremental.specs.declared.record.Reader.{Reader}
 use Rattle.incremental.specs.declared.fields.Moved.{Moved}
-use Rattle.incremental.specs.Record.{beforeBy, kindIn, mapIn, stateIn, numbers}
+use Rattle.incremental.specs.Record.{beforeBy, kindIn, mapIn, stateIn}
 use Rattle.incremental.specs.Steps.{placeIn, Sane, Came, ended, came, Stands, Sought, MoveReady, ends, goes, MovedOn}
 use Rattle.incremental.proofs.StateLaws.{state-between, state-body, state-finished, state-stopped, place-between, place-piece, place-late, stands, sane-between}
 use Rattle.incremental.proofs.PassLaws.{passes-fed}

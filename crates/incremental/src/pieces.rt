@@ -247,7 +247,7 @@ fn judge_child(slots: &[u64; 512], schemas: usize, r: Reader) -> Reader
 }
 
 // Whether an 87 element with the id stands directly before.
-pub(crate) fn follows(paired: usize, before: usize, id: usize) -> bool
+fn follows(paired: usize, before: usize, id: usize) -> bool
     ensures { λ a. ⌜ a ≡ follows (beforeBy paired before) id ⌝ }
 {
     if paired == 0 {

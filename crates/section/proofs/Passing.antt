@@ -17,7 +17,6 @@ use Rattle.shapes.specs.Shapes.{Sound}
 use Rattle.shapes.specs.Masks.{Shaped}
 use Rattle.quick.specs.Quick.{RowStep}
 use Rattle.grammar.specs.Grammar.{Before, other, after, columnsAt}
-use Rattle.section.specs.declared.pass.Passed.{Passed}
 use Rattle.section.specs.declared.said.Said.{Said}
 use Rattle.section.specs.Heads.{deleteHead, dataHead, headAt, beforeIn, pairedId}
 use Rattle.section.specs.Passes.{addsBy, behindBy, Passes, none, next, deleted, PassedTo, PassedIn, InBounds, DeletedAt}
