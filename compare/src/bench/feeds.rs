@@ -1,5 +1,5 @@
 //! How long it takes to read a section that arrives in fragments, beside a check of the same section
-//! as a whole; and what a call costs that brings one byte.
+//! as a whole and one in parts; and what a call costs that brings one byte.
 
 use std::hint::black_box;
 use std::time::Instant;
@@ -8,6 +8,7 @@ use super::median;
 use super::sections::{Case, Rows, BYTES_OF_PAGE, BYTES_OF_SECTION};
 use crate::archive::{self, Reply};
 use crate::reading::arrival::Progress;
+use crate::reading::section::{PARENT_UNCHANGED, ROW_NUMBERS};
 use crate::text::Text;
 use crate::Totals;
 
@@ -31,9 +32,24 @@ enum Way {
     Check,
     /// In fragments of so many bytes, and then the close.
     Feed(usize),
+    /// In parts of whole parents, by a call of the section reader for each. It remembers nothing and
+    /// meets no cut row, but it too reads the schema file in each call.
+    Parts,
 }
 
-const WAYS: [Way; 3] = [Way::Check, Way::Feed(FRAGMENTS[0]), Way::Feed(FRAGMENTS[1])];
+const WAYS: [Way; 4] = [
+    Way::Check,
+    Way::Feed(FRAGMENTS[0]),
+    Way::Feed(FRAGMENTS[1]),
+    Way::Parts,
+];
+
+/// A section, and its parts: each ends before a parent, and has as many of them as the smaller fragments
+/// have room for, or one.
+struct Cut {
+    case: Case,
+    ends: Vec<usize>,
+}
 
 /// A call that is measured alone.
 #[derive(Clone, Copy, Debug)]
@@ -48,9 +64,30 @@ enum Call {
 
 const ALONE: [Call; 3] = [Call::OneByte, Call::NoByte, Call::Schema];
 
+impl Cut {
+    fn new(case: Case) -> Cut {
+        let (mut start, mut ends) = (0, Vec::new());
+        let mut last = 0;
+        for row in case.wanted.chunks_exact(ROW_NUMBERS) {
+            if row[0] != PARENT_UNCHANGED {
+                continue;
+            }
+            let token = row[2] as usize - 1;
+            if token - start > FRAGMENTS[1] && start < last {
+                ends.push(last);
+                start = last;
+            }
+            last = token;
+        }
+        ends.push(case.section.len());
+        Cut { case, ends }
+    }
+}
+
 impl Way {
-    /// How many rows the section has.
-    fn go(self, case: &Case) -> Reply<Progress> {
+    /// How many rows the section has; of parts, whether the last ends it.
+    fn go(self, cut: &Cut) -> Reply<Progress> {
+        let case = &cut.case;
         match self {
             Way::Check => archive::check_section(&case.file, &case.section).map(Progress::Complete),
             Way::Feed(size) => {
@@ -60,6 +97,18 @@ impl Way {
                 }
                 archive::close(&case.file, &mut reader)
             }
+            Way::Parts => {
+                let mut start = 0;
+                let mut answer = archive::check_section(&case.file, &[]);
+                for end in &cut.ends {
+                    answer = black_box(archive::check_section(
+                        &case.file,
+                        &case.section[start..*end],
+                    ));
+                    start = *end;
+                }
+                answer.map(|_| Progress::Complete(case.rows()))
+            }
         }
     }
 }
@@ -68,20 +117,20 @@ impl Way {
 pub fn run() -> Result<Totals, String> {
     let mut totals = Totals::default();
     println!(
-        "Sections of {BYTES_OF_SECTION} bytes, a page of {BYTES_OF_PAGE}: checked whole, and fed in fragments and closed (medians of {ROUNDS} rounds).\nA ratio is the time of the check divided by that of the feeding; the bars are {:.2} and {:.2}.\n",
-        BARS[0], BARS[1]
+        "Sections of {BYTES_OF_SECTION} bytes, a page of {BYTES_OF_PAGE}: checked whole, fed in fragments and closed, and checked in parts of whole parents\nof at most {} bytes, a call for each (medians of {ROUNDS} rounds).\nA ratio is the time of the check divided by that of the other way; the bars are {:.2} and {:.2}.\n",
+        FRAGMENTS[1], BARS[0], BARS[1]
     );
     println!("{}", head());
     let mut cases = Vec::new();
     for rows in Rows::ALL {
-        let case = Case::new(rows)?;
+        let cut = Cut::new(Case::new(rows)?);
         totals.cases += 1;
-        if differs(rows, &case) {
+        if differs(rows, &cut) {
             totals.differ += 1;
             continue;
         }
-        println!("{}", line(rows, &case, measure(&case, rows.size().1)));
-        cases.push((rows, case));
+        println!("{}", line(rows, &cut.case, measure(&cut, rows.size().1)));
+        cases.push((rows, cut.case));
     }
     println!("\nNanoseconds a call, with the schema file of each (medians of {ROUNDS} rounds):\n");
     println!(
@@ -105,10 +154,10 @@ pub fn count(only: Option<&str>) -> Result<Totals, String> {
         if only.is_some_and(|only| only != rows.name()) {
             continue;
         }
-        let case = Case::new(rows)?;
+        let cut = Cut::new(Case::new(rows)?);
         totals.cases += 1;
-        totals.differ += u64::from(differs(rows, &case));
-        println!("{}: {} rows each way", rows.name(), case.rows());
+        totals.differ += u64::from(differs(rows, &cut));
+        println!("{}: {} rows each way", rows.name(), cut.case.rows());
     }
     if totals.cases == 0 {
         return Err("there is no such case".to_string());
@@ -117,12 +166,13 @@ pub fn count(only: Option<&str>) -> Result<Totals, String> {
 }
 
 /// Goes over the section once in each way; says so if one does not count its rows.
-fn differs(rows: Rows, case: &Case) -> bool {
+fn differs(rows: Rows, cut: &Cut) -> bool {
     let mut differs = false;
+    let wanted = cut.case.rows();
     for way in WAYS {
-        let answer = way.go(case);
-        if answer != Ok(Progress::Complete(case.rows())) {
-            println!("{}: {} rows are wanted", rows.name(), case.rows());
+        let answer = way.go(cut);
+        if answer != Ok(Progress::Complete(wanted)) {
+            println!("{}: {wanted} rows are wanted", rows.name());
             println!("  {way:?}: {}", answer.text());
             differs = true;
         }
@@ -131,14 +181,14 @@ fn differs(rows: Rows, case: &Case) -> bool {
 }
 
 /// The medians of each way, in nanoseconds for a whole section.
-fn measure(case: &Case, times: usize) -> [f64; WAYS.len()] {
+fn measure(cut: &Cut, times: usize) -> [f64; WAYS.len()] {
     let mut rounds: [Vec<f64>; WAYS.len()] = Default::default();
     for round in 0..ROUNDS {
         for turn in 0..WAYS.len() {
             let at = (round + turn) % WAYS.len();
             let started = Instant::now();
             for _ in 0..times {
-                let _ = black_box(WAYS[at].go(black_box(case)));
+                let _ = black_box(WAYS[at].go(black_box(cut)));
             }
             rounds[at].push(started.elapsed().as_nanos() as f64 / times as f64);
         }
@@ -192,6 +242,8 @@ fn head() -> String {
         ways += &format!("{size:>10}{:>8}", "");
         units += &format!("{:>10}{:>8}", "GB/s", "ratio");
     }
+    ways += &format!("{:>10}{:>8}", "parts", "");
+    units += &format!("{:>10}{:>8}", "GB/s", "ratio");
     format!("{}\n{units}", ways.trim_end())
 }
 

@@ -21,7 +21,7 @@ const ID_SIZE: usize = 4;
 pub const ROW_NUMBERS: usize = 4;
 
 /// Kinds of rows in the table.
-pub(super) const PARENT_UNCHANGED: u32 = 1;
+pub const PARENT_UNCHANGED: u32 = 1;
 const CHILD_UNCHANGED: u32 = 2;
 const CHILD_CHANGED: u32 = 3;
 const CHILD_DELETED: u32 = 4;

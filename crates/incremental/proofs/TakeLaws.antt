@@ -174,11 +174,6 @@ taking-start S s reader w =
     let z : placeIn reader ≡ placeIn reader + 0 = omega arith in
     record { same = refl; inside = omega arith; sane = came-to (came w) z }
 
--- where a record has come to, if it is not that of a refusal
-pub came-place : {r : Reader} {to : ℕ} → Came r to → Came r (placeIn r)
-came-place (ended e) = ended e
-came-place (came w) = came (rw (sym (w .comes)) at w)
-
 pub taking-next :
     (S : List Schema) (s : Bytes) (reader r : Reader) (at : ℕ) (m : Moved) → Taking S s reader r at → MovedOn S s r at m → Taking S s reader (m .reader) (m .at)
 taking-next S s reader r at m t w =
