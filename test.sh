@@ -20,8 +20,7 @@ step rt fmt --check
 step python3 tools/check_docs.py
 
 echo "== rt ci"
-# rt waits for each batch of proofs to end. In batches of four, two processors idle less.
-RT_JOBS=${RT_JOBS:-4} rt ci >"$log" 2>&1
+rt ci >"$log" 2>&1
 status=$?
 grep -E '^rt: |passed, ' "$log"
 if [ "$status" -ne 0 ]; then
