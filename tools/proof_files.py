@@ -128,7 +128,7 @@ def expand(text, defs):
     while before != text:
         before = text
         for name, body in sorted(defs, key=lambda d: -len(d[0])):
-            text = text.replace(name, body)
+            text = re.sub(re.escape(name) + r'(?!\w)', lambda _: body, text)
     return text
 
 
