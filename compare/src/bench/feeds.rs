@@ -6,8 +6,9 @@ use std::time::Instant;
 
 use super::median;
 use super::sections::{Case, Rows, BYTES_OF_PAGE, BYTES_OF_SECTION};
-use crate::archive::{self, Reply};
+use crate::archive::{self, Fault, Reply};
 use crate::reading::arrival::Progress;
+use crate::reading::error::{Error, ErrorCode, Input};
 use crate::reading::section::{PARENT_UNCHANGED, ROW_NUMBERS};
 use crate::text::Text;
 use crate::Totals;
@@ -32,8 +33,8 @@ enum Way {
     Check,
     /// In fragments of so many bytes, and then the close.
     Feed(usize),
-    /// In parts of whole parents, by a call of the section reader for each. It remembers nothing and
-    /// meets no cut row, but it too reads the schema file in each call.
+    /// In parts, by a call of the section reader for each. It remembers nothing and meets no cut row,
+    /// but it too reads the schema file in each call.
     Parts,
 }
 
@@ -44,8 +45,8 @@ const WAYS: [Way; 4] = [
     Way::Parts,
 ];
 
-/// A section, and its parts: each ends before a parent, and has as many of them as the smaller fragments
-/// have room for, or one.
+/// A section, and where its parts end: each has as many parents and what follows them as the smaller
+/// fragments have room for, or one.
 struct Cut {
     case: Case,
     ends: Vec<usize>,
@@ -66,13 +67,14 @@ const ALONE: [Call; 3] = [Call::OneByte, Call::NoByte, Call::Schema];
 
 impl Cut {
     fn new(case: Case) -> Cut {
-        let (mut start, mut ends) = (0, Vec::new());
-        let mut last = 0;
-        for row in case.wanted.chunks_exact(ROW_NUMBERS) {
-            if row[0] != PARENT_UNCHANGED {
-                continue;
-            }
-            let token = row[2] as usize - 1;
+        let parents = case
+            .wanted
+            .chunks_exact(ROW_NUMBERS)
+            .filter(|row| row[0] == PARENT_UNCHANGED)
+            .map(|row| row[2] as usize - 1);
+        let done = case.section.len() - 1;
+        let (mut start, mut last, mut ends) = (0, 0, Vec::new());
+        for token in parents.chain([done]) {
             if token - start > FRAGMENTS[1] && start < last {
                 ends.push(last);
                 start = last;
@@ -82,10 +84,16 @@ impl Cut {
         ends.push(case.section.len());
         Cut { case, ends }
     }
+
+    /// Where the last part starts.
+    fn last(&self) -> usize {
+        self.ends.iter().rev().nth(1).copied().unwrap_or(0)
+    }
 }
 
 impl Way {
-    /// How many rows the section has; of parts, whether the last ends it.
+    /// How many rows the section has. Of its parts the last alone is a section; the others must be gone
+    /// over to their ends.
     fn go(self, cut: &Cut) -> Reply<Progress> {
         let case = &cut.case;
         match self {
@@ -99,15 +107,20 @@ impl Way {
             }
             Way::Parts => {
                 let mut start = 0;
-                let mut answer = archive::check_section(&case.file, &[]);
                 for end in &cut.ends {
-                    answer = black_box(archive::check_section(
-                        &case.file,
-                        &case.section[start..*end],
-                    ));
-                    start = *end;
+                    let part = &case.section[start..*end];
+                    let over = Error::new(ErrorCode::Truncated, part.len(), Input::Section);
+                    match archive::check_section(&case.file, part) {
+                        Err(Fault::Error(error)) if error == over => start = *end,
+                        Err(fault) => return Err(fault),
+                        Ok(_) => break,
+                    }
                 }
-                answer.map(|_| Progress::Complete(case.rows()))
+                Ok(Progress::Complete(if start == cut.last() {
+                    case.rows()
+                } else {
+                    0
+                }))
             }
         }
     }
@@ -117,7 +130,7 @@ impl Way {
 pub fn run() -> Result<Totals, String> {
     let mut totals = Totals::default();
     println!(
-        "Sections of {BYTES_OF_SECTION} bytes, a page of {BYTES_OF_PAGE}: checked whole, fed in fragments and closed, and checked in parts of whole parents\nof at most {} bytes, a call for each (medians of {ROUNDS} rounds).\nA ratio is the time of the check divided by that of the other way; the bars are {:.2} and {:.2}.\n",
+        "Sections of {BYTES_OF_SECTION} bytes, a page of {BYTES_OF_PAGE}: checked whole, fed in fragments and closed, and checked in parts of\nat most {} bytes, a call for each (medians of {ROUNDS} rounds).\nA ratio is the time of the check divided by that of the other way; the bars are {:.2} and {:.2}.\n",
         FRAGMENTS[1], BARS[0], BARS[1]
     );
     println!("{}", head());
