@@ -1,5 +1,7 @@
 // The calls of the library that take a schema file together with rows or plans.
 // Each checks all that it is given, in the common order of checks: all sizes, the schema file, the schema number, the rest.
+#![tactic(auto)]
+
 ghost use Rattle.std.specs.Prelude.{◌≡◌};
 ghost use Rattle.wire.specs.Read.{about, sized, sized_by, told_match};
 ghost use Rattle.wire.specs.Integers.{told_int};

@@ -1,4 +1,5 @@
 // What schema files are made of, read at an offset: numbers, and the numbers of one column up to a nested schema.
+#![tactic(auto)]
 
 pub mod head;
 pub mod number;

@@ -1,4 +1,5 @@
 // Runs the examples of document 01 that are not proved as theorems, and prints a line for each.
+#![tactic(auto)]
 
 mod file;
 mod head;

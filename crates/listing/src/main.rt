@@ -1,4 +1,5 @@
 // Lists the rows of the section in `rows.bin` under the schema file in `sheet.bin`, both of the folder that it is run in.
+#![tactic(auto)]
 
 mod files;
 mod lines;

@@ -1,3 +1,4 @@
 // Maps of bits as numbers.
+#![tactic(auto)]
 
 pub mod maps;

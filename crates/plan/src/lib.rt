@@ -1,4 +1,5 @@
 // Column plans: what a plan holds of a schema's columns, made and compared, and the fixed places that it names.
+#![tactic(auto)]
 
 pub mod compare;
 pub mod fixed;

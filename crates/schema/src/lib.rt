@@ -1,5 +1,6 @@
 // Schema files (document 01's column sheets): the reader, and the table that it fills. What is asked of that table is in crate `questions`,
 // the writer in crate `numbers`.
+#![tactic(auto)]
 
 pub mod children;
 pub mod columns;

@@ -1,4 +1,6 @@
 // Update data over the columns of one schema, and the current value of a changed row. The original row is asked of crate `row`.
+#![tactic(auto)]
+
 ghost use Rattle.std.specs.Prelude.{◌≡◌, ◌<◌};
 ghost use Rattle.column.specs.Layout.{column_in};
 

@@ -167,9 +167,9 @@ byte_ok s a v e = go (leb (a + 1) (length s)) refl
 -- constant bytes
 pub constants_is : {s : Bytes} {a b : ℕ} (x : Bytes) → Piece s a b x → constants s a x ≡ ok tt
 unfolding constants check
-constants_is [] p = refl
+constants_is {s} {a} {b} [] p = refl
 constants_is {s} {a} {b} (v ∷ x) p =
-    simp (byte_is (front (v ∷ []) x p), eq-eqb v v refl) (constants_is x (back (v ∷ []) x p))
+    simp (byte_is (front (v ∷ []) x p), eq-eqb v v refl) (constants_is {s = s} {a = a + 1} {b = b} x (back (v ∷ []) x p))
 
 pub constants_ok : (s : Bytes) (a : ℕ) (x : Bytes) (u : Unit {0}) → a ≤ length s → constants s a x ≡ ok u → Piece s a (a + length x) x
 unfolding constants

@@ -1,5 +1,7 @@
 // What every layer stands on: errors, the size limit, integers, maps of bits, and bytes that are matched or copied.
 // It knows nothing of headers, columns or rows.
+#![tactic(auto)]
+
 ghost use Rattle.std.specs.Prelude.{◌≡◌, min};
 
 pub mod bits;

@@ -4,26 +4,22 @@ use Prim.Native.Nat.{◌+◌, ◌<◌, ◌≤◌}
 use mathlib.Core.Path.{sym}
 use native.Mathlib.Omega.{arith}
 use borrow.Author.Tests.{lt-ltb, le-ltb}
-use Rattle.wire.proofs.bytes.lacks.Statement.{statement}
-use Rattle.wire.proofs.bytes.lacks.Tie as tie
+use Rattle.wire.proofs.bytes.lacks.Goals as goal
 
-returns : tie.Need-returns
+pub returns-then-size-at : goal.returns-then-size-at
+returns-then-size-at c =
+    let a = c.args in
+    let h : a.size < a.at + a.n = omega arith in
+    sym (lt-ltb _ _ h)
+
+pub returns-then-size-at-2 : goal.returns-then-size-at-2
+returns-then-size-at-2 c =
+    let a = c.args in
+    let h : a.size < a.at + a.n = omega arith in
+    sym (lt-ltb _ _ h)
+
+pub returns : goal.returns
 returns c =
-    let a = c.before.args in
-    let h : a.size < a.at + a.n = omega arith in
-    sym (lt-ltb _ _ h)
-
-returns-2 : tie.Need-returns-2
-returns-2 c =
-    let a = c.before.before.args in
-    let h : a.size < a.at + a.n = omega arith in
-    sym (lt-ltb _ _ h)
-
-returns-3 : tie.Need-returns-3
-returns-3 c =
-    let a = c.before.before.args in
+    let a = c.args in
     let h : a.at + a.n ≤ a.size = omega arith in
     sym (le-ltb _ _ h)
-
-pub lacks-spec : {M : Type 1} → statement M
-lacks-spec = tie.close (tie.spec returns returns-2 returns-3)

@@ -1,0 +1,9 @@
+-- Assumes nothing.
+use native.Mathlib.Omega.{arith}
+use borrow.Author.Rules.{rules}
+use Rattle.wire.specs.Bits.{map_bytes}
+use Rattle.wire.proofs.bits.map_bytes.Goals as goal
+
+pub returns : goal.returns
+unfolding map_bytes
+returns c = omega arith
