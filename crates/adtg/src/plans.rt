@@ -12,7 +12,7 @@ use questions::file::{Found, SlotsRead};
 use wire::bytes::Matched;
 
 // A plan that was made; beside an error the blank plan.
-#[derive(Drop)]
+#[derive(Clone, Copy)]
 pub struct PlanRead {
     pub found: Found,
     pub plan: Plan,

@@ -8,7 +8,7 @@ use batch::find::{PageRead, find_page};
 
 // What a page answers: 0, the row that comes next and how many spans there are; or the error's code, offset and input.
 #[repr(C)]
-#[derive(Drop)]
+#[derive(Clone, Copy)]
 pub struct PageAnswer {
     pub code: u32,
     pub first: u64,

@@ -19,7 +19,7 @@ use questions::file::Found;
 
 // A plan that was made, or the error with the blank plan beside it.
 #[repr(C)]
-#[derive(Drop)]
+#[derive(Clone, Copy)]
 pub struct PlanAnswer {
     pub code: u32,
     pub offset: u64,

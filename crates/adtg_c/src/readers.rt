@@ -11,7 +11,7 @@ use incremental::record::{Reader, first_reader};
 
 // What a reader answers: 0 and how far it is, with a count; or the error's code, offset and input.
 #[repr(C)]
-#[derive(Drop)]
+#[derive(Clone, Copy)]
 pub struct FedAnswer {
     pub code: u32,
     pub progress: u32,
@@ -20,7 +20,7 @@ pub struct FedAnswer {
 }
 
 // The next record, and the answer.
-#[derive(Drop)]
+#[derive(Clone, Copy)]
 pub struct NextAnswer {
     pub reader: Reader,
     pub answer: FedAnswer,

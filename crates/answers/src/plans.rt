@@ -11,7 +11,7 @@ use row::rows::LookUp;
 
 // What a look-up through a plan answers.
 #[repr(C)]
-#[derive(Drop)]
+#[derive(Clone, Copy)]
 pub struct FoundAnswer {
     pub code: u32,
     pub kind: u32,

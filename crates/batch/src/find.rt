@@ -21,14 +21,14 @@ pub const NULL_MARK: u32 = 4_294_967_295;
 pub const CHAPTER_MARK: u32 = 4_294_967_294;
 
 // How many spans are found and which row comes next, or why there is none.
-#[derive(Drop)]
+#[derive(Clone, Copy)]
 pub enum PageRead {
     Page { spans: usize, next: usize },
     Refused(Error),
 }
 
 // The span of one row: two positions in the section, or two marks.
-#[derive(Drop)]
+#[derive(Clone, Copy)]
 enum SpanRead {
     At { start: u32, end: u32 },
     Refused(Error),

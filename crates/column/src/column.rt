@@ -6,7 +6,7 @@ use crate::types::ColumnType;
 use wire::error::ErrorKind;
 
 // A column. Flags are 1 for nullable, else 0; the maximum is that of a variable type.
-#[derive(Drop)]
+#[derive(Clone, Copy)]
 pub struct Column {
     pub code: u8,
     pub flags: u8,
@@ -14,7 +14,7 @@ pub struct Column {
 }
 
 // What the rules say of a field's length.
-#[derive(Drop)]
+#[derive(Clone, Copy)]
 pub enum LengthCheck {
     Allowed,
     Refused(ErrorKind),

@@ -10,7 +10,7 @@ use crate::packed::pack;
 pub const MOST_COLUMNS: usize = 64;
 
 // Up to so many columns; behind the last one all numbers are 0.
-#[derive(Drop)]
+#[derive(Clone, Copy)]
 pub struct Columns {
     pub count: usize,
     pub codes: [u8; 64],

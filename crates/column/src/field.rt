@@ -10,7 +10,7 @@ use wire::error::{Error, Input};
 use wire::integer::{IntRead, u8_at, u32_at};
 
 // A field: its two ends, and the number of length prefixes read for it, 0 or 1.
-#[derive(Drop)]
+#[derive(Clone, Copy)]
 pub struct Field {
     pub start: usize,
     pub end: usize,
@@ -18,7 +18,7 @@ pub struct Field {
 }
 
 // A field that was read.
-#[derive(Drop)]
+#[derive(Clone, Copy)]
 pub enum FieldRead {
     Found(Field),
     Refused(Error),

@@ -3,7 +3,7 @@ ghost use Rattle.std.specs.Prelude.{◌≡◌};
 ghost use Rattle.column.specs.Types.{kind_of, width_of};
 
 // What a field of a type looks like: so many bytes; bytes or text with a length; wide text with a length; none.
-#[derive(Drop)]
+#[derive(Clone, Copy)]
 pub enum Kind {
     Fixed(usize),
     Variable,
@@ -13,7 +13,7 @@ pub enum Kind {
 }
 
 // A column type, by its code.
-#[derive(Drop)]
+#[derive(Clone, Copy)]
 pub struct ColumnType {
     pub code: u8,
 }

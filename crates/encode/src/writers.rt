@@ -21,7 +21,7 @@ use wire::output::Written;
 use wire::{LIMIT, lesser};
 
 // The maps of a row.
-#[derive(Drop)]
+#[derive(Clone, Copy)]
 enum Map {
     Presence,
     Update,
@@ -204,7 +204,7 @@ fn check_entries<'a>(
 }
 
 // The bits of a map in an array, and how many they are.
-#[derive(Drop)]
+#[derive(Clone, Copy)]
 struct Bits {
     bits: [u8; 64],
     count: usize,

@@ -9,7 +9,7 @@ use wire::error::{Error, ErrorKind, Input};
 
 // The numbers of a column that was read. Of a chapter: where its id stands, which may be one seen before. The flags of a field stand where an
 // error has its input, and are as small: else that number is stored in pieces, and whoever loads it whole must wait.
-#[derive(Drop)]
+#[derive(Clone, Copy)]
 pub enum HeadRead {
     Field {
         code: usize,

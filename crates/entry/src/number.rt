@@ -8,7 +8,7 @@ use wire::error::{Error, ErrorKind, Input};
 use wire::integer::wide;
 
 // A number that was read: its value, and the offset behind it.
-#[derive(Drop)]
+#[derive(Clone, Copy)]
 pub enum NumberRead {
     Number { value: usize, end: usize },
     Refused(Error),

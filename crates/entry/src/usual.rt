@@ -11,7 +11,7 @@ use column::types::{ColumnType, Kind};
 use wire::integer::wide;
 
 // A column in one number, and where it ends.
-#[derive(Drop)]
+#[derive(Clone, Copy)]
 pub enum Usual {
     Column { slot: u64, end: usize },
     Unusual,

@@ -13,7 +13,7 @@ use wire::output::Written;
 pub const SIGNATURE: [u8; 5] = [0x01, 0x07, 0x54, 0x47, 0x21];
 
 // What a header says, and where it ends.
-#[derive(Drop)]
+#[derive(Clone, Copy)]
 pub struct Header {
     pub major: usize,
     pub minor: usize,
@@ -23,7 +23,7 @@ pub struct Header {
 }
 
 // A header that was read.
-#[derive(Drop)]
+#[derive(Clone, Copy)]
 pub enum HeaderRead {
     Read(Header),
     Refused(Error),

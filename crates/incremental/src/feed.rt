@@ -27,7 +27,7 @@ use wire::error::{Error, ErrorKind, Input};
 const TOO_LARGE: u32 = 19;
 
 // So many whole elements and more to come; so many rows and the section is complete; or a refusal.
-#[derive(Drop)]
+#[derive(Clone, Copy)]
 pub enum Fed {
     Going(usize),
     Complete(usize),
@@ -39,7 +39,7 @@ pub enum Fed {
 }
 
 // The next record, and what is answered.
-#[derive(Drop)]
+#[derive(Clone, Copy)]
 pub struct Next {
     pub reader: Reader,
     pub answer: Fed,

@@ -33,7 +33,7 @@ fn less_one(n: usize) -> usize
 }
 
 // Where the columns of one schema stand in a table of slots.
-#[derive(Drop)]
+#[derive(Clone, Copy)]
 pub struct Block {
     pub first: usize,
     pub count: usize,
@@ -106,7 +106,7 @@ pub(crate) fn bits_before(slots: &[u64; 512], first: usize, count: usize, n: usi
 }
 
 // Fields that were passed: where they end, and the column that comes next.
-#[derive(Drop)]
+#[derive(Clone, Copy)]
 pub struct Fields {
     pub at: usize,
     pub column: usize,
@@ -218,7 +218,7 @@ fn at_field(r: Reader, at: usize, i: usize, column: Column) -> Reader
 }
 
 // Where a part of a fragment led.
-#[derive(Drop)]
+#[derive(Clone, Copy)]
 pub struct Moved {
     pub reader: Reader,
     pub at: usize,

@@ -46,7 +46,7 @@ const MOST_CODE: u32 = 20;
 
 // What is remembered. Any numbers are a record; those that no call makes are refused.
 #[repr(C)]
-#[derive(Drop)]
+#[derive(Clone, Copy)]
 pub struct Reader {
     pub stage: u32,
     pub code: u32,

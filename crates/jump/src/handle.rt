@@ -11,7 +11,7 @@ use plan::plan::Plan;
 use row::rows::LookUp;
 
 // A row of the caller, and where its data start.
-#[derive(Drop)]
+#[derive(Clone, Copy)]
 pub struct RowHandle<'a> {
     pub row: &'a [u8],
     pub start: usize,

@@ -55,7 +55,7 @@ fn is_there(word: usize, bits: u64, row: &[u8]) -> bool
 
 // A way over stops. It has come to `base` and `length` together: the last length read stands apart, so that from one prefix to the next
 // there is one sum only.
-#[derive(Drop)]
+#[derive(Clone, Copy)]
 enum Way {
     At {
         base: usize,
@@ -66,7 +66,7 @@ enum Way {
 }
 
 // A prefix: where it ends, and the length that it says.
-#[derive(Drop)]
+#[derive(Clone, Copy)]
 struct Prefix {
     end: usize,
     length: usize,

@@ -7,7 +7,7 @@ use schema::reader::{PlaceRead, read_file};
 use wire::error::{Error, ErrorKind, Input};
 
 // How many numbers a file has, all of them in the table; or why they are not.
-#[derive(Drop)]
+#[derive(Clone, Copy)]
 pub enum Listed {
     Numbers(usize),
     Refused(Error),

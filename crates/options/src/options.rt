@@ -22,14 +22,14 @@ pub const GUID: [u8; 16] = [
 pub const UPDATE: [u8; 1] = [0x01];
 
 // A part of the input, by its two ends.
-#[derive(Drop)]
+#[derive(Clone, Copy)]
 pub struct Span {
     pub start: usize,
     pub end: usize,
 }
 
 // The three strings of handler options.
-#[derive(Drop)]
+#[derive(Clone, Copy)]
 pub struct Spans {
     pub first: Span,
     pub second: Span,
@@ -37,7 +37,7 @@ pub struct Spans {
 }
 
 // What handler options say, and where they end.
-#[derive(Drop)]
+#[derive(Clone, Copy)]
 pub struct Options {
     pub update: usize,
     pub strings: Spans,
@@ -46,28 +46,28 @@ pub struct Options {
 }
 
 // A string that was read.
-#[derive(Drop)]
+#[derive(Clone, Copy)]
 pub enum SpanRead {
     Read(Span),
     Refused(Error),
 }
 
 // Three strings that were read.
-#[derive(Drop)]
+#[derive(Clone, Copy)]
 pub enum SpansRead {
     Read(Spans),
     Refused(Error),
 }
 
 // Handler options that were read.
-#[derive(Drop)]
+#[derive(Clone, Copy)]
 pub enum OptionsRead {
     Read(Options),
     Refused(Error),
 }
 
 // The size of handler options to be written.
-#[derive(Drop)]
+#[derive(Clone, Copy)]
 pub enum SizeCheck {
     Size(usize),
     Refused(Error),

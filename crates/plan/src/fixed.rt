@@ -10,7 +10,7 @@ use wire::error::{Error, ErrorKind, Input};
 use wire::lesser;
 
 // Where a column's field starts in every row that has it, or that no place is fixed.
-#[derive(Drop)]
+#[derive(Clone, Copy)]
 pub enum PlaceRead {
     Fixed(usize),
     Moving,

@@ -4,7 +4,7 @@
 // the j-th stop number 64 + j, with all that going over it needs; then the count of columns with the number of the first stop, the bytes of
 // the presence map, and the bits of the nullable chapters. All others are 0.
 #[repr(C)]
-#[derive(Drop)]
+#[derive(Clone, Copy)]
 pub struct Plan {
     pub numbers: [usize; 131],
 }

@@ -16,21 +16,21 @@ use schema::reader::{PlaceRead, read_file};
 use wire::error::{Error, ErrorKind, Input};
 
 // How many schemas and columns a file has.
-#[derive(Drop)]
+#[derive(Clone, Copy)]
 pub enum CountsRead {
     Counts { schemas: usize, columns: usize },
     Refused(Error),
 }
 
 // A number that was asked for.
-#[derive(Drop)]
+#[derive(Clone, Copy)]
 pub enum SizeRead {
     Size(usize),
     Refused(Error),
 }
 
 // A schema of a file that was read into a table: the slots of its columns, and how many schemas the table has.
-#[derive(Drop)]
+#[derive(Clone, Copy)]
 enum Opened {
     Block {
         start: usize,
@@ -41,7 +41,7 @@ enum Opened {
 }
 
 // A column that was asked for. Of a chapter: its child id and the number of its schema, else 0.
-#[derive(Drop)]
+#[derive(Clone, Copy)]
 pub enum ColumnRead {
     Column {
         code: usize,
@@ -54,21 +54,21 @@ pub enum ColumnRead {
 }
 
 // Whether a schema was found.
-#[derive(Drop)]
+#[derive(Clone, Copy)]
 pub enum Found {
     Yes,
     Refused(Error),
 }
 
 // The columns of a schema that was asked for; none where it was refused.
-#[derive(Drop)]
+#[derive(Clone, Copy)]
 pub struct ColumnsRead {
     pub found: Found,
     pub columns: Columns,
 }
 
 // How many columns a schema has that was asked for; each is in its slot.
-#[derive(Drop)]
+#[derive(Clone, Copy)]
 pub enum SlotsRead {
     Columns(usize),
     Refused(Error),

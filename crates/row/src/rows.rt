@@ -22,14 +22,14 @@ use wire::integer::IntRead;
 use wire::{LIMIT, lesser};
 
 // Where a walk stands: the position, and the prefixes counted so far.
-#[derive(Drop)]
+#[derive(Clone, Copy)]
 pub enum WalkRead {
     At { position: usize, prefixes: usize },
     Refused(Error),
 }
 
 // What a look-up answers.
-#[derive(Drop)]
+#[derive(Clone, Copy)]
 pub enum LookUp {
     Found(Field),
     Null,

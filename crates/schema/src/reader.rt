@@ -17,7 +17,7 @@ use wire::LIMIT;
 use wire::error::{Error, ErrorKind, Input};
 
 // Where the reader stands: the offset of what it reads next, how many columns have a slot, how many schemas a number.
-#[derive(Drop)]
+#[derive(Clone, Copy)]
 pub struct Place {
     pub at: usize,
     pub columns: usize,
@@ -25,7 +25,7 @@ pub struct Place {
 }
 
 // Where the reader stands after a schema or a column.
-#[derive(Drop)]
+#[derive(Clone, Copy)]
 pub enum PlaceRead {
     Read(Place),
     Refused(Error),

@@ -7,7 +7,7 @@ use entry::usual::{Usual, plain_at};
 use wire::lesser;
 
 // So many columns that were read one after the other, and the offset behind them.
-#[derive(Drop)]
+#[derive(Clone, Copy)]
 pub struct Run {
     pub count: usize,
     pub at: usize,

@@ -24,7 +24,7 @@ pub const DELETE: u8 = 0x8C;
 pub const DONE: u8 = 0x0F;
 
 // A head that was read. Of row data: the kind of its row so far, the number of its schema, its child id, where the data start.
-#[derive(Drop)]
+#[derive(Clone, Copy)]
 pub enum Head {
     Done,
     Delete(usize),

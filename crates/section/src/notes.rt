@@ -42,7 +42,7 @@ pub(crate) fn note(sizes: &mut [u8], i: usize, size: usize, stepped: bool) -> us
 }
 
 // A size that was noted, and where the next one is; 0 bytes say that none was.
-#[derive(Drop)]
+#[derive(Clone, Copy)]
 pub struct Size {
     pub bytes: usize,
     pub next: usize,

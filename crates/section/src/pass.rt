@@ -14,7 +14,7 @@ use wire::LIMIT;
 use wire::integer::IntRead;
 
 // Elements that were passed: the rows that they add, where the next element stands, the child before it.
-#[derive(Drop)]
+#[derive(Clone, Copy)]
 pub struct Passed {
     pub rows: usize,
     pub at: usize,

@@ -13,7 +13,7 @@ use wire::error::Error;
 use wire::integer::IntRead;
 
 // How many rows a section has, or why it is refused.
-#[derive(Drop)]
+#[derive(Clone, Copy)]
 pub enum RowsRead {
     Rows(usize),
     Refused(Error),

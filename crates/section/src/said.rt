@@ -11,7 +11,7 @@ use shapes::shapes::SCHEMAS;
 use wire::bytes::lacks;
 
 // An element with row data: the kind of its row, the number of its schema, where its data start. A kind of 0 says nothing.
-#[derive(Drop)]
+#[derive(Clone, Copy)]
 pub struct Said {
     pub kind: usize,
     pub number: usize,

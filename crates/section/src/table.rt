@@ -50,7 +50,7 @@ fn chosen(first: usize, other: usize, second: usize) -> usize
 }
 
 // The entry of a row: its four numbers.
-#[derive(Drop)]
+#[derive(Clone, Copy)]
 pub struct Entry {
     pub kind: usize,
     pub id: usize,

@@ -14,7 +14,7 @@ use wire::LIMIT;
 use wire::error::{Error, ErrorKind, Input};
 
 // The current value: a field of the update data, null by them, or what the original row answers.
-#[derive(Drop)]
+#[derive(Clone, Copy)]
 pub enum CurrentValue {
     Updated(Field),
     Forced,

@@ -24,7 +24,7 @@ use wire::integer::IntRead;
 use wire::{LIMIT, lesser};
 
 // What update data say of a column.
-#[derive(Drop)]
+#[derive(Clone, Copy)]
 pub enum UpdateLookUp {
     Found(Field),
     Null,

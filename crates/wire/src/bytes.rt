@@ -6,7 +6,7 @@ ghost use Rattle.wire.specs.Output.{put};
 use crate::error::{Error, ErrorKind, Input};
 
 // Whether bytes are the expected ones.
-#[derive(Drop)]
+#[derive(Clone, Copy)]
 pub enum Matched {
     Same,
     Refused(Error),

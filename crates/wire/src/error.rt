@@ -6,7 +6,7 @@ ghost use Rattle.wire.specs.declared.error.Input.TheVariants as input;
 ghost use Rattle.wire.specs.Errors.{code_of, input_number};
 
 // Why an input is refused, in the order of document 01's table.
-#[derive(Drop)]
+#[derive(Clone, Copy)]
 pub enum ErrorKind {
     Short,
     Constant,
@@ -31,7 +31,7 @@ pub enum ErrorKind {
 }
 
 // What an error concerns. `Single` is the one input of a reader, which needs no name.
-#[derive(Drop)]
+#[derive(Clone, Copy)]
 pub enum Input {
     Single,
     Schema,
@@ -58,7 +58,7 @@ pub enum Input {
 }
 
 // A refusal. The offset is the paper's place.
-#[derive(Drop)]
+#[derive(Clone, Copy)]
 pub struct Error {
     pub kind: ErrorKind,
     pub offset: usize,

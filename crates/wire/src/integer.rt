@@ -8,7 +8,7 @@ use crate::bytes::{copy_into, lacks};
 use crate::error::Error;
 
 // An integer that was read.
-#[derive(Drop)]
+#[derive(Clone, Copy)]
 pub enum IntRead {
     Int(usize),
     Refused(Error),
