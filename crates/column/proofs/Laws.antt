@@ -394,8 +394,8 @@ module _ (c : Column) (row : Bytes) (p : ℕ) where
       go true v =
           let q = prefix_variable c v in
           let n : ℕ = f.end - f.start in
-          let i : read_int row p (prefix_size c) ≡ ok n = int_fits row p (prefix_size c) (omega arith) ∙ ap ok (t.length-said v) in
-          field_variable c row p v ∙ variable_bytes c row p n i (t.length-allowed v) ∙ bytes_fit row (p + prefix_size c) n 1 (omega arith)
+          let i : read_int row p (prefix_size c) ≡ ok n = int_fits row p (prefix_size c) (omega arith) ∙ ap ok (t.length_said v) in
+          field_variable c row p v ∙ variable_bytes c row p n i (t.length_allowed v) ∙ bytes_fit row (p + prefix_size c) n 1 (omega arith)
           ∙ found f (omega arith) (omega arith) (sym (t.counts ∙ rw v))
       go false v =
           let q = prefix_plain c v in
@@ -414,8 +414,8 @@ field_later c row other p {f} h q l =
       forward = t.forward;
       ends = l;
       counts = t.counts;
-      length_allowed = t.length-allowed;
-      length_said = λ v. sym (int_front row other f.end p (prefix_size c) (omega (arith, prefix_variable c v)) q) ∙ t.length-said v;
+      length_allowed = t.length_allowed;
+      length_said = λ v. sym (int_front row other f.end p (prefix_size c) (omega (arith, prefix_variable c v)) q) ∙ t.length_said v;
       fixed = t.fixed;
     })
 

@@ -456,7 +456,7 @@ module _ (file s : Bytes) (S : List Schema) (bytes : AreBytes file) (g : Given f
     unfolding look_up_in about
     row_answers o r =
         let (cs, e, _) = plan_columns file number p h in
-        let (a, q) = r.looks-up column few in
+        let (a, q) = r.looks_up column few in
         let l : length (drop o s) ≤ limit = omega (arith, length-drop o s, g.within) in
         let same : columns_at S number ≡ cs = columns_are_lem file S number cs g.valid e in (
           a,

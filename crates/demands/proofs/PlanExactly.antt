@@ -271,7 +271,7 @@ bit_codes (later_bit h f) = bit_codes f
 
 module _ {n : ℕ} (f : Foreign n) (p : Plan) (row : Bytes) where
   pub never_planned_open : Never n (PlanOpenFaults p row)
-  never_planned_open = never_then (never_short f.no_end) (never_of (λ _ h. f.no-chapter (bit_codes h)))
+  never_planned_open = never_then (never_short f.no_end) (never_of (λ _ h. f.no_chapter (bit_codes h)))
 
   module _ (k : ℕ) where
     stop_codes : {ts : List Stop} {w : Place} {code offset : ℕ} → StopFault row ts w code offset → code ≡ n → ⊥

@@ -351,7 +351,7 @@ module _ (cs : List Column) (row update : Bytes) (k : ℕ) where
   chapter_unset e l h c =
       let d = update_end_told cs update 0 e h in
       sym (ap (chapter_marked update) (number_at_lem cs k l) ∙ marked_chapter update (get_or cs k no_column) k c)
-      ∙ clear_at (chapter_marked update) 12 0 (numbered 0 cs) d.no-update k (omega (arith, length_numbered 0 cs))
+      ∙ clear_at (chapter_marked update) 12 0 (numbered 0 cs) d.no_update k (omega (arith, length_numbered 0 cs))
 
   -- by what they say of the column
   exactly_by : (a : UpdateAnswer) → look_update cs update k ≡ ok a → Exactly (current_by cs row k a) (Where (not (bit_set update k)) (LookUpFaults cs row k))
@@ -415,7 +415,7 @@ foreign h =
 module _ {n : ℕ} (f : Foreign n) where
   module _ (name : Input) (cs : List Column) (row : Bytes) (at : ℕ) where
     pub never_opened : Never n (OpenFaults name cs row at)
-    never_opened = never_then (never_of (λ _ h. f.no_end (short_codes h))) (never_of (λ _ h. f.no-chapter (map_codes h)))
+    never_opened = never_then (never_of (λ _ h. f.no_end (short_codes h))) (never_of (λ _ h. f.no_chapter (map_codes h)))
 
     pub never_row : Never n (RowFaults name cs row at)
     never_row = never_then never_opened (never_of (λ _ h. fields_codes h f.no_end f.no_length))
@@ -423,8 +423,8 @@ module _ {n : ℕ} (f : Foreign n) where
     pub never_update_opened : Never n (UpdateOpenFaults name cs row at)
     never_update_opened =
         never_then (never_of (λ _ h. f.no_end (short_codes h)))
-        (never_then (never_of (λ _ h. f.no-chapter (map_codes h)))
-        (never_then (never_of (λ _ h. f.no-chapter (map_codes h))) (never_of (λ _ h. f.no-force (map_codes h)))))
+        (never_then (never_of (λ _ h. f.no_chapter (map_codes h)))
+        (never_then (never_of (λ _ h. f.no_chapter (map_codes h))) (never_of (λ _ h. f.no_force (map_codes h)))))
 
     pub never_update : Never n (UpdateFaults name cs row at)
     never_update = never_then never_update_opened (never_of (λ _ h. fields_codes h f.no_end f.no_length))

@@ -47,7 +47,7 @@ no_token_by b h =
 token_by_none : (b : ℕ) → NoToken b → token_of b ≡ unknown_token
 unfolding token_of
 token_by_none b n =
-    simp (ne_eqb _ _ n.no-parent, ne_eqb _ _ n.no-child, ne_eqb _ _ n.no_change, ne_eqb _ _ n.no-delete, ne_eqb _ _ n.no-done)
+    simp (ne_eqb _ _ n.no_parent, ne_eqb _ _ n.no_child, ne_eqb _ _ n.no_change, ne_eqb _ _ n.no_delete, ne_eqb _ _ n.no_done)
 
 -- an 87 before has an id that is known
 abbrev Known : List Schema → Before → Type 0

@@ -113,13 +113,13 @@ field_read c row p f bytes plain h =
     let q : Piece row f.start f.end v = piece_to a (piece row f.start n i) in
     let z : p + prefix_bytes c ≡ f.start = sym t.starts in
     let said : is_variable c ≡ true → read_int row p (prefix_size c) ≡ ok n =
-    λ e. int_fits row p (prefix_size c) (omega (arith, t.starts, t.forward, t.ends, prefix_variable c e)) ∙ ap ok (t.length-said e) in
+    λ e. int_fits row p (prefix_size c) (omega (arith, t.starts, t.forward, t.ends, prefix_variable c e)) ∙ ap ok (t.length_said e) in
     let x : Piece row p (p + prefix_bytes c) (int_bytes (prefix_bytes c) n) = go n (λ e. said e) (omega (arith, t.starts, t.forward, t.ends)) (is_variable c) refl in
     let g : Piece row p f.end (int_bytes (prefix_bytes c) n ++ v) = join (piece_to z x) q in (
       v,
       record {
         plain = plain;
-        allowed = λ e. ap (length_error c) l ∙ t.length-allowed e;
+        allowed = λ e. ap (length_error c) l ∙ t.length_allowed e;
         said = λ e. subst (λ (k : ℕ). k < 256 ^ prefix_size c) (sym l) (int_small row p (prefix_size c) n bytes (said e));
         fixed = λ e. omega (arith, t.fixed e);
       },

@@ -85,7 +85,7 @@ module _ (update force : Bytes) where
   changed_plain m k u = go (is_chapter m.column) refl
     where
       go : (t : Bool) → is_chapter m.column ≡ t → t ≡ false
-      go true e = sym u ∙ sym (marked_chapter update m.column m.bit e) ∙ k.no-update
+      go true e = sym u ∙ sym (marked_chapter update m.column m.bit e) ∙ k.no_update
       go false e = refl
 
   carried_bits : (m : Mark) → carried update force m ≡ true → (bit_set update m.bit ≡ true) × (bit_set force m.bit ≡ false)
@@ -163,8 +163,8 @@ module _ {cs : List Column} {es : List Entry} {row : Bytes} {b : ℕ} (d : Made 
   opens =
       let f : Bytes = drop (0 + update_bytes cs) row in
       update_well cs row 0 (omega (arith, d.fields.ends, d.fields.inside))
-      (each_clear (chapter_marked row) 12 0 (λ m e i. (ruled_by row f m e i).no-update) d.maps)
-      (each_clear (chapter_marked f) 12 (0 + update_bytes cs) (λ m e i. (ruled_by row f m e i).no-force) d.maps)
+      (each_clear (chapter_marked row) 12 0 (λ m e i. (ruled_by row f m e i).no_update) d.maps)
+      (each_clear (chapter_marked f) 12 (0 + update_bytes cs) (λ m e i. (ruled_by row f m e i).no_force) d.maps)
       (each_clear (force_broken row f) 13 (0 + update_bytes cs) (λ m e i. (ruled_by row f m e i).rule) d.maps)
 
   -- they end behind their fields
@@ -290,8 +290,8 @@ accepted_made cs row e bytes h =
     let k : (i : ℕ) → i < length (numbered 0 cs) → Ruled row f (get_or (numbered 0 cs) i no_mark) =
     λ i l.
     record {
-      no_update = clear_at (chapter_marked row) 12 0 (numbered 0 cs) d.no-update i l;
-      no_force = clear_at (chapter_marked f) 12 (0 + update_bytes cs) (numbered 0 cs) d.no-force i l;
+      no_update = clear_at (chapter_marked row) 12 0 (numbered 0 cs) d.no_update i l;
+      no_force = clear_at (chapter_marked f) 12 (0 + update_bytes cs) (numbered 0 cs) d.no_force i l;
       rule = clear_at (force_broken row f) 13 (0 + update_bytes cs) (numbered 0 cs) d.ruled i l;
     } in
     let (es, r, p) = walk_read (data_passes row f) row bytes (numbered 0 cs) (place (0 + 2 * update_bytes cs) 0) d.last k d.inside y in

@@ -186,8 +186,8 @@ module _ (S : List Schema) (s : Bytes) (n : ℕ) where
       go true v =
           let w = field_told m.column s at x in
           variable_passed k map m.column j p at f.end (column_left S k j m ms r) (omega (arith, w.starts, w.forward, prefix_variable m.column v)) w.ends
-          (w.length-said v ∙ omega (arith, w.starts, w.forward, prefix_variable m.column v))
-          (ap (length_error m.column) (omega (arith, w.starts, w.forward, prefix_variable m.column v)) ∙ w.length-allowed v)
+          (w.length_said v ∙ omega (arith, w.starts, w.forward, prefix_variable m.column v))
+          (ap (length_error m.column) (omega (arith, w.starts, w.forward, prefix_variable m.column v)) ∙ w.length_allowed v)
       go false v =
           let w = field_told m.column s at x in
           let y : f.end ≡ at + width m.column = omega (arith, w.fixed v, w.starts, prefix_plain m.column v) in

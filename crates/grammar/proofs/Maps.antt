@@ -132,24 +132,24 @@ present_complete no_column_lem b k h d = record { no_chapter = nowhere_end; same
 present_complete {seen = seen} (always {c = c} {cs = cs} ex en p) b k h d =
     let z : k + one (is_nullable c) ≡ k = rw en (add-zero k) in
     let r = present_complete p b k (omega arith) d in
-    let n : Nowhere (chapter_present seen) (marks (k + one (is_nullable c)) cs) = rw z r.no-chapter in
+    let n : Nowhere (chapter_present seen) (marks (k + one (is_nullable c)) cs) = rw z r.no_chapter in
     record { no_chapter = nowhere_next (mark c k) (rw ex) n; same = rw (z, ex, en) (ap (λ (l : List Column). c ∷ l) r.same) }
 present_complete {seen = seen} (set {c = c} {cs = cs} {bs = bs} ex en p) b k h d =
     let z : one (is_nullable c) ≡ 1 = rw en in
     let (t, d') = bit_known b k true bs (omega arith) d in
     let r = present_complete p b (k + 1) (omega arith) d' in
-    let n : Nowhere (chapter_present seen) (marks (k + one (is_nullable c)) cs) = rw z r.no-chapter in
+    let n : Nowhere (chapter_present seen) (marks (k + one (is_nullable c)) cs) = rw z r.no_chapter in
     record { no_chapter = nowhere_next (mark c k) (rw ex) n; same = rw (z, ex, en, t) (ap (λ (l : List Column). c ∷ l) r.same) }
 present_complete {seen = seen} (unset {c = c} {cs = cs} {bs = bs} en p) b k h d =
     let z : one (is_nullable c) ≡ 1 = rw en in
     let (t, d') = bit_known b k false bs (omega arith) d in
     let r = present_complete p b (k + 1) (omega arith) d' in
-    let n : Nowhere (chapter_present seen) (marks (k + one (is_nullable c)) cs) = rw z r.no-chapter in
+    let n : Nowhere (chapter_present seen) (marks (k + one (is_nullable c)) cs) = rw z r.no_chapter in
     record { no_chapter = nowhere_next (mark c k) (rw (en, t) (pick_none (is_chapter c))) n; same = rw (z, en, t, pick_none) r.same }
 present_complete {seen = seen} (a_chapter {c = c} {cs = cs} ex en p) b k h d =
     let z : k + one (is_nullable c) ≡ k = rw en (add-zero k) in
     let r = present_complete p b k (omega arith) d in
-    let n : Nowhere (chapter_present seen) (marks (k + one (is_nullable c)) cs) = rw z r.no-chapter in
+    let n : Nowhere (chapter_present seen) (marks (k + one (is_nullable c)) cs) = rw z r.no_chapter in
     record { no_chapter = nowhere_next (mark c k) (rw (ex, en)) n; same = rw (z, ex) r.same }
 
 -- The update map and the force-null map.
@@ -195,8 +195,8 @@ carried_complete (unchanged {c = c} {us = us} {fs = fs} p) u f k h i d e =
     let (v, e') = bit_known f k false fs (omega arith) e in
     let r = carried_complete p u f (suc k) (omega arith) (omega arith) (rw add-one at d') (rw add-one at e') in
     record {
-      no_update = nowhere_next (mark c k) (rw t (pick_none (is_chapter c))) r.no-update;
-      no_force = nowhere_next (mark c k) (rw v (pick_none (is_chapter c))) r.no-force;
+      no_update = nowhere_next (mark c k) (rw t (pick_none (is_chapter c))) r.no_update;
+      no_force = nowhere_next (mark c k) (rw v (pick_none (is_chapter c))) r.no_force;
       kept = nowhere_next (mark c k) (rw v) r.kept;
       same = rw t r.same;
     }
@@ -205,8 +205,8 @@ carried_complete (value {c = c} {us = us} {fs = fs} x p) u f k h i d e =
     let (v, e') = bit_known f k false fs (omega arith) e in
     let r = carried_complete p u f (suc k) (omega arith) (omega arith) (rw add-one at d') (rw add-one at e') in
     record {
-      no_update = nowhere_next (mark c k) (rw x) r.no-update;
-      no_force = nowhere_next (mark c k) (rw x) r.no-force;
+      no_update = nowhere_next (mark c k) (rw x) r.no_update;
+      no_force = nowhere_next (mark c k) (rw x) r.no_force;
       kept = nowhere_next (mark c k) (rw v) r.kept;
       same = rw (t, v) (ap (λ (l : List Column). c ∷ l) r.same);
     }
@@ -215,8 +215,8 @@ carried_complete (forced_null {c = c} {us = us} {fs = fs} x n p) u f k h i d e =
     let (v, e') = bit_known f k true fs (omega arith) e in
     let r = carried_complete p u f (suc k) (omega arith) (omega arith) (rw add-one at d') (rw add-one at e') in
     record {
-      no_update = nowhere_next (mark c k) (rw x) r.no-update;
-      no_force = nowhere_next (mark c k) (rw x) r.no-force;
+      no_update = nowhere_next (mark c k) (rw x) r.no_update;
+      no_force = nowhere_next (mark c k) (rw x) r.no_force;
       kept = nowhere_next (mark c k) (rw (v, t, n)) r.kept;
       same = rw (t, v) r.same;
     }

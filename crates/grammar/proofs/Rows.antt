@@ -61,7 +61,7 @@ module _ (c : Column) (s : Bytes) (at : ℕ) (f : Found) (t : Told c s at f) whe
     length_there =
         record {
           size = cut_length s at (prefix_size c) prefix_there;
-          says = t.length-said v ∙ sym (cut_length s f.start said body_there);
+          says = t.length_said v ∙ sym (cut_length s f.start said body_there);
         }
 
     both : Piece s at f.end (cut s at (prefix_size c) ++ cut s f.start said)
@@ -73,12 +73,12 @@ module _ (c : Column) (s : Bytes) (at : ℕ) (f : Found) (t : Told c s at f) whe
   sound_by (Fixed w) q = plain_sound (rw q)
   sound_by Variable q =
       let v : is_variable c ≡ true = rw q in
-      let m : said v ≤ c.maximum = (plain_allowed c (said v) q).0 (t.length-allowed v) in
+      let m : said v ≤ c.maximum = (plain_allowed c (said v) q).0 (t.length_allowed v) in
       let m' : length (cut s f.start (said v)) ≤ c.maximum = rw (cut_length s f.start (said v) (body_there v)) m in
       (_, variable_field q (length_there v) m', both v)
   sound_by Wide q =
       let v : is_variable c ≡ true = rw q in
-      let (m, d) = (wide_allowed c (said v) q).0 (t.length-allowed v) in
+      let (m, d) = (wide_allowed c (said v) q).0 (t.length_allowed v) in
       let m' : length (cut s f.start (said v)) ≤ 2 * c.maximum = rw (cut_length s f.start (said v) (body_there v)) m in
       let d' : length (cut s f.start (said v)) % 2 ≡ 0 = rw (cut_length s f.start (said v) (body_there v)) d in
       (_, wide_field q (length_there v) m' d', both v)
@@ -212,7 +212,7 @@ row_complete {columns} {s = s} {at = at} {e = e} (original map {fields = y} l n 
     let (n, g) =
     walk_complete (present (drop at s)) s (length columns) (marks 0 columns) (place (at + presence_bytes columns) 0) e (omega (arith, length_marks 0 columns)) G
     (piece_from z (back map y p)) in
-    end_reached columns s at _ (opened_well columns s at h (clear_complete 12 at r.no-chapter)) e n g
+    end_reached columns s at _ (opened_well columns s at h (clear_complete 12 at r.no_chapter)) e n g
 
 -- Update row data.
 
@@ -234,8 +234,8 @@ update_sound columns s at e r =
     d.walk in (
       cut s at b ++ (cut s (at + b) b ++ y),
       an_update_lem (cut s at b) (cut s (at + b) b) n₁ n₂
-          (carried_sound (piece_begins p₁) (piece_begins p₂) columns 0 (enough _ (cut s at b) n₁) (enough _ (cut s (at + b) b) n₂) (clear_sound _ _ _ _ tt d.no-update)
-          (clear_sound _ _ _ _ tt d.no-force) (clear_sound _ _ _ _ tt d.ruled)) F,
+          (carried_sound (piece_begins p₁) (piece_begins p₂) columns 0 (enough _ (cut s at b) n₁) (enough _ (cut s (at + b) b) n₂) (clear_sound _ _ _ _ tt d.no_update)
+          (clear_sound _ _ _ _ tt d.no_force) (clear_sound _ _ _ _ tt d.ruled)) F,
       join p₁ (join (piece_to z p₂) (piece_to d.ends q)),
     )
 
@@ -255,4 +255,4 @@ update_complete {columns} {s = s} {at = at} {e = e} (an_update_lem u f {fields =
     walk_complete (carried (drop at s) (drop (at + b) s)) s (length columns) (numbered 0 columns) (place (at + 2 * b) 0) e (omega (arith, length_numbered 0 columns)) G
     (piece_from z' (back f y q)) in
     update_end_reached columns s at _
-    (update_well columns s at h (clear_complete 12 at r.no-update) (clear_complete 12 (at + b) r.no-force) (clear_complete 13 (at + b) r.kept)) e m g
+    (update_well columns s at h (clear_complete 12 at r.no_update) (clear_complete 12 (at + b) r.no_force) (clear_complete 13 (at + b) r.kept)) e m g

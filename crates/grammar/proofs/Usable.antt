@@ -95,8 +95,8 @@ pub current_value :
     {columns : List Column} {s : Bytes} {o u : ℕ} → RowAt columns s o → UpdateAt columns s u → (j : ℕ) → j < length columns →
     (a : Current) × (current columns (drop o s) (drop u s) j ≡ ok a)
 current_value {columns} {s} {o} {u} r v j h =
-    let (a, e) = v.looks-up j h in
-    let (b, f) = r.looks-up j h in
+    let (a, e) = v.looks_up j h in
+    let (b, f) = r.looks_up j h in
     go a e b f
   where
     go :

@@ -93,14 +93,14 @@ module _
       (f.columns ++ (v ∷ [])) ++ numbers_from (gap_past c gap) (stops + one (is_stop c)) (marks (bit + o) (drop (i + 1) cs))
       ≡ numbers_from (presence_bytes cs) 0 (marks 0 cs)
   unfolding numbers_from marks
-  numbers_left = rw (append_assoc, d, over) (sym (rw left) ∙ f.columns-left)
+  numbers_left = rw (append_assoc, d, over) (sym (rw left) ∙ f.columns_left)
 
   -- its bit, where it is a nullable chapter
   bit_left :
       mask + (pick (is_chapter c) (pick (is_nullable c) (2 ^ (63 - bit)) 0) 0 + chapter_mask (marks (bit + o) (drop (i + 1) cs)))
       ≡ chapter_mask (marks 0 cs)
   unfolding chapter_mask marks
-  bit_left = rw over (sym (rw left) ∙ f.mask-left)
+  bit_left = rw over (sym (rw left) ∙ f.mask_left)
 
   bit_stop : (x : ℕ) → is_stop c ≡ true → pick (is_chapter c) x 0 ≡ 0
   bit_stop x s = go (is_chapter c) refl
@@ -118,7 +118,7 @@ module _
 
   first_now : pick (eqb stops 0) (pick (is_stop c) i (first_stop (i + 1) (drop (i + 1) cs))) first ≡ first_stop 0 cs
   unfolding first_stop
-  first_now = rw add-one (sym (rw (left, add-one)) ∙ f.first-left)
+  first_now = rw add-one (sym (rw (left, add-one)) ∙ f.first_left)
 
   -- a stop, whose number is w
   pub fill_stop :
@@ -127,12 +127,12 @@ module _
   unfolding stops_from marks
   fill_stop x z w q {n} y =
       let s : is_stop c ≡ true = sym x ∙ z in
-      let g : gap % 65536 ≡ gap = omega (arith, f.gap-few) in
-      let b : bit % 64 ≡ bit = omega (arith, f.bit-few) in
+      let g : gap % 65536 ≡ gap = omega (arith, f.gap_few) in
+      let b : bit % 64 ≡ bit = omega (arith, f.bit_few) in
       record {
         columns = f.columns ++ (v ∷ []);
         words = f.words ++ (w ∷ []);
-        held = rw (number_written, sym f.listed) (set_stop (f.columns ++ (v ∷ [])) f.words 0 0 0 w (omega (arith, f.listed, f.stops-few)));
+        held = rw (number_written, sym f.listed) (set_stop (f.columns ++ (v ∷ [])) f.words 0 0 0 w (omega (arith, f.listed, f.stops_few)));
         written = number_counted;
         listed = rw length-append (omega (arith, f.listed));
         columns_left = rw s at numbers_left;
@@ -141,14 +141,14 @@ module _
         first_left = rw (ne_eqb (stops + 1) 0 (λ z. omega (arith, z)), y) (rw s at first_now);
         first_none = λ z. absurd (omega (arith, z));
         gap_few = omega arith;
-        bit_few = omega (arith, h, f.bit-few, one_few t);
-        stops_few = omega (arith, f.stops-few);
+        bit_few = omega (arith, h, f.bit_few, one_few t);
+        stops_few = omega (arith, f.stops_few);
         first_few = rw y (pick_few (eqb stops 0));
       }
     where
       pick_few : (t : Bool) → pick t i first ≤ 64
       pick_few true = omega arith
-      pick_few false = omega (arith, f.first-few)
+      pick_few false = omega (arith, f.first_few)
 
   -- any other, whose bit is m
   pub mask_room : {r : Bool} → r ≡ is_stop c → r ≡ false → {m : ℕ} → m ≡ pick t (2 ^ (63 - bit)) 0 → mask + m < 18446744073709551616
@@ -171,11 +171,11 @@ module _
         words_left = rw (y, over) (sym (rw (left, s)) ∙ f.words_left);
         mask_left = rw (q, k) (omega (arith, bit_left, bit_plain (2 ^ (63 - bit)) s));
         first_left = rw s at first_now;
-        first_none = f.first-none;
-        gap_few = omega (arith, y, f.gap-few, width_few c);
-        bit_few = omega (arith, h, f.bit-few, one_few t);
-        stops_few = omega (arith, f.stops-few);
-        first_few = f.first-few;
+        first_none = f.first_none;
+        gap_few = omega (arith, y, f.gap_few, width_few c);
+        bit_few = omega (arith, h, f.bit_few, one_few t);
+        stops_few = omega (arith, f.stops_few);
+        first_few = f.first_few;
       }
 
 abbrev Listed : List Column → List ℕ
@@ -188,16 +188,16 @@ pub fill_end :
 unfolding plan_of counted numbers_from stops_from marks chapter_mask first_stop
 fill_end cs {numbers} {gap} {bit} {stops} {first} {mask} {i} {map} {n} f l y e =
     let none : drop i cs ≡ [] = drop_of_length-le cs l in
-    let columns : f.columns ≡ numbers_from (presence_bytes cs) 0 (marks 0 cs) = sym (append_nil f.columns) ∙ sym (rw none) ∙ f.columns-left in
+    let columns : f.columns ≡ numbers_from (presence_bytes cs) 0 (marks 0 cs) = sym (append_nil f.columns) ∙ sym (rw none) ∙ f.columns_left in
     let words : f.words ≡ Listed cs = sym (append_nil f.words) ∙ sym (rw none) ∙ f.words_left in
-    let chapters : mask ≡ chapter_mask (marks 0 cs) = sym (add-zero mask) ∙ sym (rw none) ∙ f.mask-left in
-    let start : first ≡ first_stop 0 cs = go (eqb stops 0) refl (sym (rw none) ∙ f.first-left) in
+    let chapters : mask ≡ chapter_mask (marks 0 cs) = sym (add-zero mask) ∙ sym (rw none) ∙ f.mask_left in
+    let start : first ≡ first_stop 0 cs = go (eqb stops 0) refl (sym (rw none) ∙ f.first_left) in
     let all : set (set (set numbers 128 (n + 256 * first)) 129 map) 130 mask ≡ laid f.columns f.words (n + 256 * first) map mask =
     rw f.held (set_counts f.columns f.words (n + 256 * first) map mask) in
     rw all (rw (columns, words, y, e, chapters, start))
   where
     go : (t : Bool) → eqb stops 0 ≡ t → pick t 0 first ≡ first_stop 0 cs → first ≡ first_stop 0 cs
-    go true q r = f.first-none (eqb-true stops 0 q) ∙ r
+    go true q r = f.first_none (eqb-true stops 0 q) ∙ r
     go false q r = r
 
 -- the bit of a chapter, as code makes it

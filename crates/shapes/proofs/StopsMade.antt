@@ -211,14 +211,14 @@ module _
           let t : Stop = stop_of (is_nullable c) c gap bit in
           let more : stops_from is_nullable is_stop 0 (take (i + 1) (marks 0 cs)) ≡ old ++ (t ∷ []) = stops_more ∙ rw s refl in
           let says : SayOne w m t =
-          word_says (is_nullable c) c gap bit slot (omega (arith, grown.few-gap, h, few)) (omega (arith, grown.few_bits, h, few)) a b k in
+          word_says (is_nullable c) c gap bit slot (omega (arith, grown.few_gap, h, few)) (omega (arith, grown.few_bits, h, few)) a b k in
           record {
             below = omega arith;
             said = rw more (say_more w m (next + 2 * stops) grown.said says (omega (arith, grown.count)) room);
             count = rw more (omega (arith, grown.count, length-append old (t ∷ [])));
             tail = sym (tail_more ∙ rw s refl);
             bits = bits_on;
-            few_stops = omega (arith, grown.few-stops);
+            few_stops = omega (arith, grown.few_stops);
             few_gap = omega arith;
             few_bits = omega (arith, grown.few_bits, a-bit, one_most (is_nullable c));
           }
@@ -235,8 +235,8 @@ module _
             count = rw none grown.count;
             tail = rw b (sym (tail_more ∙ rw s refl));
             bits = bits_on;
-            few_stops = omega (arith, grown.few-stops);
-            few_gap = omega (arith, grown.few-gap, b, width_few c);
+            few_stops = omega (arith, grown.few_stops);
+            few_gap = omega (arith, grown.few_gap, b, width_few c);
             few_bits = omega (arith, grown.few_bits, a-bit, one_most (is_nullable c));
           }
 
@@ -251,9 +251,9 @@ module _
     grow_fits =
         let l : i ≤ 64 = omega (arith, grown.below) in (
           omega arith,
-          omega (arith, grown.few-stops),
+          omega (arith, grown.few_stops),
           omega (arith, b, map_few bit, grown.few_bits),
-          omega (arith, grown.few-gap),
+          omega (arith, grown.few_gap),
         )
 
     pub grow_end :
@@ -289,4 +289,4 @@ module _
             (j : ℕ) → (j < next) ⊎ (next + 2 * length cs ≤ j) →
             (j < next) ⊎ (next + 2 * length (stops_from is_nullable is_stop 0 (take i (marks 0 cs))) ≤ j)
         wider j (inl h) = inl h
-        wider j (inr h) = inr (omega (arith, grown.count, grown.few-stops, grown.below))
+        wider j (inr h) = inr (omega (arith, grown.count, grown.few_stops, grown.below))

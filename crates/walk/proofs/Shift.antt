@@ -59,9 +59,9 @@ module _ (s : Bytes) (at : ℕ) where
         forward = omega (arith, t.forward);
         ends = omega (arith, t.ends, length-drop at s);
         counts = t.counts;
-        length_allowed = λ v. ap (length_error c) z ∙ t.length-allowed v;
+        length_allowed = λ v. ap (length_error c) z ∙ t.length_allowed v;
         length_said =
-            λ v. int_shift (q - at) (prefix_size c) ∙ ap (λ (p : ℕ). int_at s p (prefix_size c)) y ∙ t.length-said v ∙ sym z;
+            λ v. int_shift (q - at) (prefix_size c) ∙ ap (λ (p : ℕ). int_at s p (prefix_size c)) y ∙ t.length_said v ∙ sym z;
         fixed = λ v. omega (arith, t.starts, t.fixed v);
       })
 
@@ -113,12 +113,12 @@ module _ (cs : List Column) (s : Bytes) (at e : ℕ) where
       let z : at + (0 + update_bytes cs) ≡ at + update_bytes cs = omega arith in
       let r : drop (at + update_bytes cs) s ≡ drop (0 + update_bytes cs) (drop at s) = sym (drop-drop (0 + update_bytes cs) at s ∙ ap (λ (n : ℕ). drop n s) z) in
       let f : clear (chapter_marked (drop (0 + update_bytes cs) (drop at s))) 12 (at + update_bytes cs) (numbered 0 cs) ≡ ok tt =
-      sym (ap (λ (x : Bytes). clear (chapter_marked x) 12 (at + update_bytes cs) (numbered 0 cs)) r) ∙ d.no-force in
+      sym (ap (λ (x : Bytes). clear (chapter_marked x) 12 (at + update_bytes cs) (numbered 0 cs)) r) ∙ d.no_force in
       let g : clear (force_broken (drop at s) (drop (0 + update_bytes cs) (drop at s))) 13 (at + update_bytes cs) (numbered 0 cs) ≡ ok tt =
       sym (ap (λ (x : Bytes). clear (force_broken (drop at s) x) 13 (at + update_bytes cs) (numbered 0 cs)) r) ∙ d.ruled in
       let b =
       update_well cs (drop at s) 0 (omega (arith, d.inside, length-drop at s))
-      (clear_anywhere (chapter_marked (drop at s)) 12 at 0 (numbered 0 cs) d.no-update)
+      (clear_anywhere (chapter_marked (drop at s)) 12 at 0 (numbered 0 cs) d.no_update)
       (clear_anywhere (chapter_marked (drop (0 + update_bytes cs) (drop at s))) 12 (at + update_bytes cs) (0 + update_bytes cs) (numbered 0 cs) f)
       (clear_anywhere (force_broken (drop at s) (drop (0 + update_bytes cs) (drop at s))) 13 (at + update_bytes cs) (0 + update_bytes cs) (numbered 0 cs) g) in
       let y =

@@ -178,9 +178,9 @@ module _ (cs : List Column) (update : Bytes) (k : ℕ) where
       let d = look_update_told f h in
       let m = number_at_lem cs k d.known in
       let z : 0 + update_bytes cs ≡ update_bytes cs = omega arith in
-      let g : bit_set (drop (0 + update_bytes cs) update) k ≡ false = ap (λ (n : ℕ). bit_set (drop n update) k) z ∙ d.force-bit in
+      let g : bit_set (drop (0 + update_bytes cs) update) k ≡ false = ap (λ (n : ℕ). bit_set (drop n update) k) z ∙ d.force_bit in
       let t : carried_in cs update 0 (get_or (numbered 0 cs) k no_mark) ≡ true =
-      ap (carried_in cs update 0) m ∙ carried_field (drop 0 update) (drop (0 + update_bytes cs) update) (get_or cs k no_column) k d.update-bit g in
+      ap (carried_in cs update 0) m ∙ carried_field (drop 0 update) (drop (0 + update_bytes cs) update) (get_or cs k no_column) k d.update_bit g in
       let y : field_at (get_or (numbered 0 cs) k no_mark).column update d.place.at ≡ ok d.own =
       ap (λ (m : Mark). field_at m.column update d.place.at) m ∙ d.there in
       ap (λ (f : Field). f.prefixes) d.same

@@ -74,8 +74,8 @@ module _ (cs : List Column) {row other : Bytes} {e : ℕ} (at : ℕ) (a : Agree 
   update_opened_same : (d : ℕ) → Examined cs row at d → update_opened cs other at ≡ ok (at + 2 * update_bytes cs)
   update_opened_same d x =
       let f : ℕ = at + update_bytes cs in
-      update_well cs other at (omega (arith, a.long)) (kept (chapter_marked (drop at row)) (chapter_marked (drop at other)) 12 at marked_same x.no-update)
-      (kept (chapter_marked (drop f row)) (chapter_marked (drop f other)) 12 f forced_same x.no-force)
+      update_well cs other at (omega (arith, a.long)) (kept (chapter_marked (drop at row)) (chapter_marked (drop at other)) 12 at marked_same x.no_update)
+      (kept (chapter_marked (drop f row)) (chapter_marked (drop f other)) 12 f forced_same x.no_force)
       (kept (force_broken (drop at row) (drop f row)) (force_broken (drop at other) (drop f other)) 13 f rule_same x.ruled)
 
 -- update data end behind their maps

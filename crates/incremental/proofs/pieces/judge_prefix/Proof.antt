@@ -17,14 +17,14 @@ stop-at-requires : tie.Need-stop-at-requires
 stop-at-requires c κs =
     let args = c.before.before.before.before.before.before.before.args in
     let pre = c.before.before.before.before.before.before.before.requires in
-    let column_at_lem = c.before.before.before.before.before.before.column-at in
+    let column_at_lem = c.before.before.before.before.before.before.column_at_lem in
     let length-in = c.before.before.before.length-in in
     let w = int_within (held_in args.r) (prefix_size column_at_lem.result) (sym length-in.ensures.0 ∙ ap told_int c.before.e.given.1) in (omega (arith, w.inside, length-in.ensures.1, pre), omega (arith, pre))
 
 returns : tie.Need-returns
 returns c =
     let args = c.before.before.before.before.before.before.before.before.args in
-    let column_at_lem = c.before.before.before.before.before.before.before.column-at in
+    let column_at_lem = c.before.before.before.before.before.before.before.column_at_lem in
     let length-in = c.before.before.before.before.length-in in
     let e = c.before.before.e in
     refused_piece args.r.at e.given.0.0 (int_within (held_in args.r) (prefix_size column_at_lem.result) (sym length-in.ensures.0 ∙ ap told_int e.given.1)) (prefix_refused (schemas_in 0 args.schemas args.slots.now) args.r.rows args.r.at (held_in args.r) (kind_in args.r) (map_in args.r) args.r.column column_at_lem.ensures (sym length-in.ensures.0 ∙ ap told_int e.given.1)) c.stop-at.ensures
@@ -32,7 +32,7 @@ returns c =
 returns-2 : tie.Need-returns-2
 returns-2 c =
     let args = c.before.before.before.before.before.before.before.before.before.before.before.before.before.args in
-    let column_at_lem = c.before.before.before.before.before.before.before.before.before.before.before.before.column-at in
+    let column_at_lem = c.before.before.before.before.before.before.before.before.before.before.before.before.column_at_lem in
     let length-in = c.before.before.before.before.before.before.before.before.before.length-in in
     let size = c.before.before.before.before.before.before.before.size in
     let length-error = c.before.before.before.before.before.length-error in
@@ -44,7 +44,7 @@ returns-2 c =
 returns-3 : tie.Need-returns-3
 returns-3 c =
     let args = c.before.before.before.before.before.before.before.before.before.before.before.before.args in
-    let column_at_lem = c.before.before.before.before.before.before.before.before.before.before.before.column-at in
+    let column_at_lem = c.before.before.before.before.before.before.before.before.before.before.before.column_at_lem in
     let length-in = c.before.before.before.before.before.before.before.before.length-in in
     let size = c.before.before.before.before.before.before.size in
     let length-error = c.before.before.before.before.length-error in

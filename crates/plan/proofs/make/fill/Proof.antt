@@ -32,7 +32,7 @@ number-of-requires c κs =
     let loop-test = c.before.before.before.loop-test in
     let column_of_lem = c.before.before.column-of in
     let width = c.width in
-    (width.ensures, omega (arith, width.ensures, width_few column_of_lem.result), omega (arith, loop.invariant.gap-few, loop-test.true, pre.0), omega (arith, loop.invariant.bit-few, loop-test.true, pre.0), omega (arith, loop.invariant.stops-few, loop-test.true, pre.0))
+    (width.ensures, omega (arith, width.ensures, width_few column_of_lem.result), omega (arith, loop.invariant.gap_few, loop-test.true, pre.0), omega (arith, loop.invariant.bit_few, loop-test.true, pre.0), omega (arith, loop.invariant.stops_few, loop-test.true, pre.0))
 
 add-bit : tie.Need-overflow-add-bit invariant-loop decreases-loop
 add-bit c =
@@ -40,7 +40,7 @@ add-bit c =
     let loop = c.before.before.before.before.before.before.before.before.before.before.loop in
     let loop-test = c.before.before.before.before.before.before.before.before.before.loop-test in
     let is-nullable = c.before.before.before.before.before.before.before.is-nullable in
-    omega (arith, c.one.ensures, one_few is-nullable.result, loop.invariant.bit-few, loop-test.true, pre.0)
+    omega (arith, c.one.ensures, one_few is-nullable.result, loop.invariant.bit_few, loop-test.true, pre.0)
 
 loop-again : tie.Need-loop-preserved invariant-loop decreases-loop
 loop-again c =
@@ -77,7 +77,7 @@ add-gap c =
     let loop-test = c.before.before.before.before.before.before.before.loop-test in
     let column_of_lem = c.before.before.before.before.before.before.column-of in
     let width = c.before.before.before.before.width in
-    omega (arith, width.ensures, width_few column_of_lem.result, loop.invariant.gap-few, loop-test.true, pre.0)
+    omega (arith, width.ensures, width_few column_of_lem.result, loop.invariant.gap_few, loop-test.true, pre.0)
 
 add-bit-2 : tie.Need-overflow-add-bit-2 invariant-loop decreases-loop
 add-bit-2 c =
@@ -85,7 +85,7 @@ add-bit-2 c =
     let loop = c.before.before.before.before.before.before.before.before.before.loop in
     let loop-test = c.before.before.before.before.before.before.before.before.loop-test in
     let is-nullable = c.before.before.before.before.before.before.is-nullable in
-    omega (arith, c.one2.ensures, one_few is-nullable.result, loop.invariant.bit-few, loop-test.true, pre.0)
+    omega (arith, c.one2.ensures, one_few is-nullable.result, loop.invariant.bit_few, loop-test.true, pre.0)
 
 loop-again-2 : tie.Need-loop-preserved-2 invariant-loop decreases-loop
 loop-again-2 c =

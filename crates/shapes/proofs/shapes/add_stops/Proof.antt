@@ -32,7 +32,7 @@ slice-write-shapes-2 c =
     let pre = c.before.before.before.before.before.before.before.before.before.before.requires in
     let loop = c.before.before.before.before.before.before.before.before.loop in
     let loop-test = c.before.before.before.before.before.before.before.loop-test in
-    simp length-set (omega (arith, pre, loop-test.true, loop.invariant.few-stops, loop.invariant.said.long))
+    simp length-set (omega (arith, pre, loop-test.true, loop.invariant.few_stops, loop.invariant.said.long))
 
 add-bit : tie.Need-overflow-add-bit invariant-loop decreases-loop
 add-bit c =
@@ -56,7 +56,7 @@ loop-again c =
     grow_stop loop.invariant (omega (arith, (length_slots args.slots.now args.first args.count), loop-test.true)) unpack.result (unpack.ensures ∙ sym (slot_at args.slots.now args.first args.count loop.i loop-test.true))
     (c.one.ensures ∙ ap (λ (b : Bool). one b) is-nullable.ensures) (sym is_stop.ensures ∙ if1.true)
     (get_or args.slots.now (args.first + loop.i) 0) unpack.ensures (rw (← is-nullable.ensures) stop-word.ensures)
-    (c.before.stop-mask.ensures ∙ ap (λ (b : Bool). bit_mask (pick b loop.bit 63)) is-nullable.ensures) (omega (arith, pre, (length_slots args.slots.now args.first args.count))) (omega (arith, pre, loop-test.true, loop.invariant.few-stops, loop.invariant.said.long))
+    (c.before.stop-mask.ensures ∙ ap (λ (b : Bool). bit_mask (pick b loop.bit 63)) is-nullable.ensures) (omega (arith, pre, (length_slots args.slots.now args.first args.count))) (omega (arith, pre, loop-test.true, loop.invariant.few_stops, loop.invariant.said.long))
 
 add-gap : tie.Need-overflow-add-gap invariant-loop decreases-loop
 add-gap c =
@@ -64,7 +64,7 @@ add-gap c =
     let loop = c.before.before.before.before.before.before.before.loop in
     let loop-test = c.before.before.before.before.before.before.loop-test in
     let unpack = c.before.before.before.before.unpack in
-    omega (arith, pre, loop-test.true, loop.invariant.few-gap, c.width.ensures, width_few unpack.result)
+    omega (arith, pre, loop-test.true, loop.invariant.few_gap, c.width.ensures, width_few unpack.result)
 
 add-bit-2 : tie.Need-overflow-add-bit-2 invariant-loop decreases-loop
 add-bit-2 c =
