@@ -18,7 +18,7 @@ use Rattle.column.specs.Columns.{width, is_chapter, is_nullable, is_stop}
 use Rattle.column.specs.Layout.{padded}
 use Rattle.column.specs.Packed.{packed_at, packed_from}
 use Rattle.column.specs.Stops.{stop_of, stop_word}
-use Rattle.column.proofs.Stops.{width_few, stop_chapter, no_stop}
+use Rattle.column.proofs.Stops.{width_few, stop_chapter, no_stop_lem}
 use Rattle.walk.specs.Presence.{no_column, one, presence_bytes, marks}
 use Rattle.walk.specs.Leaps.{stops_from}
 use Rattle.walk.proofs.Slots.{length_from, column_from}
@@ -114,7 +114,7 @@ module _
     where
       go : (t : Bool) → is_chapter c ≡ t → pick t (pick (is_nullable c) x 0) 0 ≡ pick (is_nullable c) x 0
       go true q = refl
-      go false q = sym (rw (no_stop c s q).0)
+      go false q = sym (rw (no_stop_lem c s q).0)
 
   first_now : pick (eqb stops 0) (pick (is_stop c) i (first_stop (i + 1) (drop (i + 1) cs))) first ≡ first_stop 0 cs
   unfolding first_stop
