@@ -1,7 +1,7 @@
 -- The mask of presence has the bits of the columns before i; then those of update data.
 -- Assumes nothing.
-use Prim.Native.Nat.{◌+◌, ◌*◌, ◌-◌}
-use mathlib.Core.Path.{sym, ◌∙◌}
+use Prim.Native.Nat.{◌-◌}
+use mathlib.Core.Path.{sym}
 use native.Mathlib.Omega.{arith}
 use lib.ListN.{length-set}
 use Rattle.walk.proofs.Laws.{bit_zero}
@@ -29,10 +29,6 @@ returns-then-k-eq0 c =
 pub add_forced-requires : goal.add_forced-requires
 add_forced-requires c =
     (c.requires.0, c.requires.1, simp length-set c.requires.2)
-
-pub same-length-2 : goal.same-length-2
-same-length-2 c =
-    c.add-forced.ensures.long ∙ length-set c.args.shapes.now (8 * c.args.k + 2) c.loop.present
 
 pub returns : goal.returns
 returns c =

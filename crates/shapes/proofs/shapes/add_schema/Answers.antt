@@ -1,6 +1,5 @@
 -- Masks, the form of original rows, that of update data.
 -- Assumes nothing.
-use mathlib.Core.Path.{◌∙◌}
 use native.Mathlib.Omega.{arith}
 use lib.ListN.{length-set}
 use Rattle.shapes.proofs.Slots.{length_slots}
@@ -20,10 +19,6 @@ pub bounds-shapes-k : goal.bounds-shapes-k
 bounds-shapes-k c =
     omega (arith, c.requires.0, c.requires.2, c.add_masks.ensures.long, c.add_stops-form.ensures.long)
 
-pub same-length : goal.same-length
-same-length c =
-    simp length-set (c.add-stops.ensures.long ∙ c.add-masks.ensures.long)
-
 pub returns-then-k-eq0 : goal.returns-then-k-eq0
 returns-then-k-eq0 c =
     schema_top (omega (arith, (length_slots c.args.slots.now c.args.first c.args.count), c.requires.1.few)) c.requires.0 (omega (arith, (length_slots c.args.slots.now c.args.first c.args.count), c.requires.2)) c.add_masks.ensures c.add_stops-form.ensures c.if-k-eq0.true
@@ -35,10 +30,6 @@ add_updates-changes-requires c =
 pub bounds-shapes-k-2 : goal.bounds-shapes-k-2
 bounds-shapes-k-2 c =
     omega (arith, c.requires.0, c.requires.2, c.add_masks.ensures.long, c.add_stops-form.ensures.long, simp length-set at c.add_updates-changes.ensures.long)
-
-pub same-length-2 : goal.same-length-2
-same-length-2 c =
-    simp length-set (c.add-updates.ensures.long ∙ simp length-set (c.add-stops.ensures.long ∙ c.add-masks.ensures.long))
 
 pub returns : goal.returns
 returns c =
