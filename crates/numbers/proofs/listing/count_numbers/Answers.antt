@@ -16,11 +16,11 @@ read : (c : In-Number) → number_at c.args.file.now c.loop-at.at ≡ ok (found 
 read c = sym c.number_at.ensures ∙ ap told_number c.in-Number.is
 
 pub loop-at-init : goal.loop-at-init
-loop-at-init c = (search rules, search rules, counted_start c.args.file.now (λ i. (c.shared_slice_known-1.given i).fits))
+loop-at-init c = (search rules, search rules, counted_start c.args.file.now (λ i. (c.type_inv.file i).fits))
 
 pub returns-in-Refused : goal.returns-in-Refused
 returns-in-Refused c =
-    counted_never c.args.file.now (λ i. (c.shared_slice_known-1.given i).fits) _ _ c.loop-at.invariant.2 c.in-Refused.field-0 c.loop-at-test.true
+    counted_never c.args.file.now (λ i. (c.type_inv.file i).fits) _ _ c.loop-at.invariant.2 c.in-Refused.field-0 c.loop-at-test.true
     (sym c.number_at.ensures ∙ ap told_number c.in-Refused.is)
 
 pub overflow_add-n : goal.overflow_add-n
@@ -32,7 +32,7 @@ loop-at-smaller c = omega (arith, number_inside _ _ _ _ (read c))
 pub loop-at-preserved : goal.loop-at-preserved
 loop-at-preserved c =
     let k = number_inside _ _ _ _ (read c) in
-    (k.1, omega (arith, c.loop-at.invariant.1), counted_next c.args.file.now (λ i. (c.shared_slice_known-1.given i).fits) _ _ c.loop-at.invariant.2 _ _ c.loop-at-test.true (read c))
+    (k.1, omega (arith, c.loop-at.invariant.1), counted_next c.args.file.now (λ i. (c.type_inv.file i).fits) _ _ c.loop-at.invariant.2 _ _ c.loop-at-test.true (read c))
 
 pub returns : goal.returns
-returns c = counted_end c.args.file.now (λ i. (c.shared_slice_known-1.given i).fits) _ _ c.loop-at.invariant.2 c.loop-at-test.false
+returns c = counted_end c.args.file.now (λ i. (c.type_inv.file i).fits) _ _ c.loop-at.invariant.2 c.loop-at-test.false

@@ -11,19 +11,19 @@ use Rattle.numbers.proofs.listing.list_numbers.Goals as goal
 pub returns-then-table-n : goal.returns-then-table-n
 returns-then-table-n c =
     lists_error _ c.args.table.now _
-    (listed_room c.args.file.now (λ i. (c.shared_slice_known-1.given i).fits) (replicate 512 0) refl _
+    (listed_room c.args.file.now (λ i. (c.type_inv.file i).fits) (replicate 512 0) refl _
     (sym c.read_file.ensures ∙ ap (λ (r : PlaceRead). told_place r c.read_file.new.table) c.in-Read.is)
     _ c.count_numbers-n.ensures (length c.args.table.now) c.if-table-n.true)
 
 pub returns-in-Refused : goal.returns-in-Refused
 returns-in-Refused c =
     lists_error _ c.args.table.now _
-    (listed_refused c.args.file.now (λ i. (c.shared_slice_known-1.given i).fits) (replicate 512 0) refl (length c.args.table.now) c.in-Refused.e
+    (listed_refused c.args.file.now (λ i. (c.type_inv.file i).fits) (replicate 512 0) refl (length c.args.table.now) c.in-Refused.e
     (sym c.read_file.ensures ∙ ap (λ (r : PlaceRead). told_place r c.read_file.new.table) c.in-Refused.is)
     ∙ sym (ap refused c.about.ensures))
 
 pub returns-else-table-n : goal.returns-else-table-n
 returns-else-table-n c =
-    lists_all c.args.file.now (λ i. (c.shared_slice_known-1.given i).fits) (replicate 512 0) refl _
+    lists_all c.args.file.now (λ i. (c.type_inv.file i).fits) (replicate 512 0) refl _
     (sym c.read_file.ensures ∙ ap (λ (r : PlaceRead). told_place r c.read_file.new.table) c.in-Read.is)
     _ c.count_numbers-n.ensures c.args.table.now _ c.if-table-n.false c.fill_numbers.ensures

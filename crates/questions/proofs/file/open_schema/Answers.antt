@@ -21,7 +21,7 @@ few : (c : Else-schemas-number) → c.args.number < most_file_columns
 few c =
     let exit : List ℕ = c.read_file.new.table in
     let h : fill_file c.args.file.now c.args.table.now ≡ ok (placed c.in-Read.p exit) = sym c.read_file.ensures ∙ ap (λ (r : PlaceRead). told_place r exit) c.in-Read.is in
-    omega (arith, (some_schema c.args.file.now c.args.table.now (λ i. (c.shared_slice_known-1.given i).fits) c.requires _ h).1, c.if-schemas-number.false)
+    omega (arith, (some_schema c.args.file.now c.args.table.now (λ i. (c.type_inv.file i).fits) c.requires _ h).1, c.if-schemas-number.false)
 
 pub returns-then-schemas-number : goal.returns-then-schemas-number
 unfolding selected_of
@@ -29,7 +29,7 @@ returns-then-schemas-number c =
     let exit : List ℕ = c.read_file.new.table in
     let h : fill_file c.args.file.now c.args.table.now ≡ ok (placed c.in-Read.p exit) = sym c.read_file.ensures ∙ ap (λ (r : PlaceRead). told_place r exit) c.in-Read.is in
     record {
-      answers = ap refused c.at_start.ensures ∙ sym (with_missing c.args.file.now c.args.number _ _ exit (schemas_read c.args.file.now c.args.table.now (λ i. (c.shared_slice_known-1.given i).fits) c.requires _ h) c.if-schemas-number.true);
+      answers = ap refused c.at_start.ensures ∙ sym (with_missing c.args.file.now c.args.number _ _ exit (schemas_read c.args.file.now c.args.table.now (λ i. (c.type_inv.file i).fits) c.requires _ h) c.if-schemas-number.true);
       slots = tt;
     }
 
@@ -41,7 +41,7 @@ returns-in-Refused c =
     record {
       answers =
           ap (λ (x : Error). refused x) c.about.ensures
-          ∙ sym (with_refused c.args.file.now c.args.number _ c.in-Refused.e (schemas_refused c.args.file.now c.args.table.now (λ i. (c.shared_slice_known-1.given i).fits) c.requires c.in-Refused.e h));
+          ∙ sym (with_refused c.args.file.now c.args.number _ c.in-Refused.e (schemas_refused c.args.file.now c.args.table.now (λ i. (c.type_inv.file i).fits) c.requires c.in-Refused.e h));
       slots = tt;
     }
 
@@ -51,8 +51,8 @@ returns-else-schemas-number c =
     let exit : List ℕ = c.read_file.new.table in
     let h : fill_file c.args.file.now c.args.table.now ≡ ok (placed c.in-Read.p exit) = sym c.read_file.ensures ∙ ap (λ (r : PlaceRead). told_place r exit) c.in-Read.is in
     record {
-      answers = sym (with_found c.args.file.now c.args.number _ _ exit (schemas_read c.args.file.now c.args.table.now (λ i. (c.shared_slice_known-1.given i).fits) c.requires _ h) c.if-schemas-number.false);
-      slots = slots_of c.args.file.now c.args.table.now (λ i. (c.shared_slice_known-1.given i).fits) c.requires _ h c.args.number c.if-schemas-number.false;
+      answers = sym (with_found c.args.file.now c.args.number _ _ exit (schemas_read c.args.file.now c.args.table.now (λ i. (c.type_inv.file i).fits) c.requires _ h) c.if-schemas-number.false);
+      slots = slots_of c.args.file.now c.args.table.now (λ i. (c.type_inv.file i).fits) c.requires _ h c.args.number c.if-schemas-number.false;
     }
 
 pub overflow_add-slot : goal.overflow_add-slot

@@ -5,4 +5,4 @@ use Rattle.questions.proofs.file.slots_of.Goals as goal
 
 pub returns-then-count-gt0 : goal.returns-then-count-gt0
 returns-then-count-gt0 c =
-    rw c.if-number-eq0.true (slotted_flat c.args.file.now _ _ (λ i. (c.shared_slice_known-1.given i).fits) c.read_flat-count.ensures c.if-count-gt0.true)
+    rw c.if-number-eq0.true (slotted_flat c.args.file.now _ _ (λ i. (c.type_inv.file i).fits) c.read_flat-count.ensures c.if-count-gt0.true)
