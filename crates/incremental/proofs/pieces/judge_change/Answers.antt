@@ -18,11 +18,11 @@ stop_at-requires c =
 
 pub returns-then-not-follows : goal.returns-then-not-follows
 returns-then-not-follows c =
-    rw (change_alone (schemas_in 0 c.args.schemas c.args.slots.now) c.args.r.rows c.args.r.at (held_in c.args.r) (c.args.r.at - 1) (before_by c.args.r.paired c.args.r.id) (sym c.id_in.ensures.0 ∙ ap told_int c.in-Int.is) (sym c.follows.ensures ∙ c.if-not-follows.true) (stopped_anywhere _ c.stop.ensures)
+    rw (change_alone (schemas_in 0 c.args.schemas c.args.slots.now) c.args.r.rows c.args.r.at (held_in c.args.r) (c.args.r.at - 1) (before_by c.args.r.paired c.args.r.id) (sym c.id_in.ensures.0 ∙ ap told_int c.in-Int.is) (sym c.follows.ensures ∙ c.if-not-follows.true)) (stopped_anywhere _ c.stop.ensures)
 
 pub returns-then-child_number-eq0 : goal.returns-then-child_number-eq0
 returns-then-child_number-eq0 c =
-    rw (change_unknown (schemas_in 0 c.args.schemas c.args.slots.now) c.args.r.rows c.args.r.at (held_in c.args.r) (c.args.r.at - 1) (before_by c.args.r.paired c.args.r.id) (sym c.id_in.ensures.0 ∙ ap told_int c.in-Int.is) (sym c.follows.ensures ∙ c.if-not-follows.false (sym (c.child_number.ensures c.requires.0.top c.requires.0.all) ∙ c.if-child_number-eq0.true)) (stopped_anywhere _ c.stop-then-child_number-eq0.ensures)
+    rw (change_unknown (schemas_in 0 c.args.schemas c.args.slots.now) c.args.r.rows c.args.r.at (held_in c.args.r) (c.args.r.at - 1) (before_by c.args.r.paired c.args.r.id) (sym c.id_in.ensures.0 ∙ ap told_int c.in-Int.is) (sym c.follows.ensures ∙ c.if-not-follows.false) (sym (c.child_number.ensures c.requires.0.top c.requires.0.all) ∙ c.if-child_number-eq0.true)) (stopped_anywhere _ c.stop-then-child_number-eq0.ensures)
 
 pub returns-in-Refused : goal.returns-in-Refused
 returns-in-Refused c =
@@ -30,4 +30,4 @@ returns-in-Refused c =
 
 pub returns-else-child_number-eq0 : goal.returns-else-child_number-eq0
 returns-else-child_number-eq0 c =
-    rw (change_known (schemas_in 0 c.args.schemas c.args.slots.now) c.args.r.rows c.args.r.at (held_in c.args.r) (c.args.r.at - 1) (before_by c.args.r.paired c.args.r.id) (sym c.id_in.ensures.0 ∙ ap told_int c.in-Int.is) (sym c.follows.ensures ∙ c.if-not-follows.false (c.child_number.ensures c.requires.0.top c.requires.0.all) c.if-child_number-eq0.false, c.id_in.ensures.1) c.start_row.ensures
+    rw (change_known (schemas_in 0 c.args.schemas c.args.slots.now) c.args.r.rows c.args.r.at (held_in c.args.r) (c.args.r.at - 1) (before_by c.args.r.paired c.args.r.id) (sym c.id_in.ensures.0 ∙ ap told_int c.in-Int.is) (sym c.follows.ensures ∙ c.if-not-follows.false) (c.child_number.ensures c.requires.0.top c.requires.0.all) c.if-child_number-eq0.false, c.id_in.ensures.1) c.start_row.ensures

@@ -18,7 +18,7 @@ stop_at-requires c =
 
 pub returns-then-not-follows : goal.returns-then-not-follows
 returns-then-not-follows c =
-    rw (delete_alone (schemas_in 0 c.args.schemas c.args.slots.now) c.args.r.rows c.args.r.at (held_in c.args.r) (c.args.r.at - 1) (before_by c.args.r.paired c.args.r.id) (sym c.id_in.ensures.0 ∙ ap told_int c.in-Int.is) (sym c.follows.ensures ∙ c.if-not-follows.true) (stopped_anywhere _ c.stop.ensures)
+    rw (delete_alone (schemas_in 0 c.args.schemas c.args.slots.now) c.args.r.rows c.args.r.at (held_in c.args.r) (c.args.r.at - 1) (before_by c.args.r.paired c.args.r.id) (sym c.id_in.ensures.0 ∙ ap told_int c.in-Int.is) (sym c.follows.ensures ∙ c.if-not-follows.true)) (stopped_anywhere _ c.stop.ensures)
 
 pub returns-in-Refused : goal.returns-in-Refused
 returns-in-Refused c =
