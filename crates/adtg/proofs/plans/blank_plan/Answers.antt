@@ -8,13 +8,8 @@ use Rattle.walk.specs.Leaps.{stops_from}
 use Rattle.plan.specs.Packed.{counted, laid}
 use Rattle.plan.specs.Plans.{numbers_from, first_stop, chapter_mask, plan_of}
 use borrow.Author.Rules.{rules}
-use Rattle.adtg.proofs.plans.blank_plan.Statement.{statement}
-use Rattle.adtg.proofs.plans.blank_plan.Tie as tie
+use Rattle.adtg.proofs.plans.blank_plan.Goals as goal
 
-returns : tie.Need-returns
+pub returns : goal.returns
 unfolding plan_of laid padded counted presence_bytes map_bytes nullables marks numbers_from stops_from first_stop chapter_mask
 returns c = refl
-
-pub blank-plan-spec : {M : Type 1} → statement M
-blank-plan-spec = tie.close (tie.spec
-    returns)
