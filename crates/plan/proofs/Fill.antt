@@ -1,7 +1,7 @@
 -- A plan that is filled along the columns.
 -- Assumes nothing.
 use Prim.Native.Nat.{ℕ, ◌+◌, ◌*◌, ◌-◌, ◌/◌, ◌%◌, ◌^◌, ◌≤◌, ◌<◌}
-use mathlib.Core.List.{List, [], ◌∷◌, ◌++◌, map, append_nil, append_assoc}
+use mathlib.Core.List.{List, [], ◌∷◌, ◌++◌, map, append-nil, append_assoc}
 use mathlib.Core.Bool.{Bool, true, false, true≢false}
 use mathlib.Core.Path.{◌≡◌, refl, sym, ap, ◌∙◌}
 use native.Mathlib.Nat.{add-zero}
@@ -188,8 +188,8 @@ pub fill_end :
 unfolding plan_of counted numbers_from stops_from marks chapter_mask first_stop
 fill_end cs {numbers} {gap} {bit} {stops} {first} {mask} {i} {map} {n} f l y e =
     let none : drop i cs ≡ [] = drop_of_length-le cs l in
-    let columns : f.columns ≡ numbers_from (presence_bytes cs) 0 (marks 0 cs) = sym (append_nil f.columns) ∙ sym (rw none) ∙ f.columns_left in
-    let words : f.words ≡ Listed cs = sym (append_nil f.words) ∙ sym (rw none) ∙ f.words_left in
+    let columns : f.columns ≡ numbers_from (presence_bytes cs) 0 (marks 0 cs) = sym (append-nil f.columns) ∙ sym (rw none) ∙ f.columns_left in
+    let words : f.words ≡ Listed cs = sym (append-nil f.words) ∙ sym (rw none) ∙ f.words_left in
     let chapters : mask ≡ chapter_mask (marks 0 cs) = sym (add-zero mask) ∙ sym (rw none) ∙ f.mask_left in
     let start : first ≡ first_stop 0 cs = go (eqb stops 0) refl (sym (rw none) ∙ f.first_left) in
     let all : set (set (set numbers 128 (n + 256 * first)) 129 map) 130 mask ≡ laid f.columns f.words (n + 256 * first) map mask =
