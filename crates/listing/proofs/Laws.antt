@@ -3,27 +3,24 @@
 use Prim.Native.Nat.{ℕ, zero, suc, ◌+◌, ◌-◌, ◌*◌, ◌/◌, ◌%◌, ◌^◌, ◌<◌, ◌≤◌}
 use mathlib.Core.Path.{◌≡◌, refl, sym, ap, ◌∙◌, subst}
 use mathlib.Core.List.{List, [], ◌∷◌, ◌++◌, append-nil}
-use mathlib.Core.Bool.{Bool, true, false}
 use native.Mathlib.Nat.{pow-suc}
 use native.Mathlib.Numerals.{add-one}
 use native.Mathlib.Omega.{arith}
 use lib.ListN.{length, take, drop, get_or, length-append, take-append-drop}
 use lib.Seq.{take-append_seam, get_or-drop}
 use lib.Dec.{leb}
-use borrow.Author.Tests.{le-leb, lt-leb, leb-true, leb-false, eq-eqb, ne_eqb}
+use borrow.Author.Tests.{le-leb, lt-leb, leb-true, eq-eqb, ne_eqb}
 use Rattle.wire.specs.declared.error.Input.{Input}
 use Rattle.wire.specs.declared.error.Input.TheVariants as input
 use Rattle.wire.specs.declared.error.Error.{Error}
 use Rattle.wire.specs.Errors.{code_of, input_number}
-use Rattle.wire.specs.Read.{Bytes, Read, ok, bad, ◌>>=◌, check, about, sized, refused}
+use Rattle.wire.specs.Read.{Bytes, Read, ok, bad, check, about, refused}
 use Rattle.wire.specs.Output.{put}
 use Rattle.wire.proofs.Laws.{put_fits, put_put, length_put}
 use Rattle.wire.proofs.Pieces.{bind_ok, check_ok, about_ok, ok_ok}
 use Rattle.std.specs.Fmt.{decimal}
 use Rattle.std.proofs.lemmas.Fmt.{decimal_by_steps, length-decimal-le}
-use Rattle.tree.specs.Schemas.{Schema, read_schemas}
 use Rattle.grammar.specs.Grammar.{Row, entry}
-use Rattle.grammar.specs.Reader.{section}
 use Rattle.section.specs.Table.{table_numbers, fitting, rows_checked, rows_listed, row_count, table_after}
 use Rattle.section.proofs.Listing.{rows_told_lem, error_told}
 use Rattle.listing.specs.Lines.{last_digits, IsDigitCount, Decimal, space, newline, rows_word, at_word, CountLine, count_line, RowLine, row_line, RowLines, no_lines, one_more, sheet_refused, rows_refused, refusal_words, RefusalLine, refusal_line, Text, rows_text, refusal_text, rows_of, Adds, AddsNumber, AddsThe}
@@ -195,12 +192,6 @@ lines_next table i a b room =
       adds = adds_next a.adds b.adds (omega (arith, a.few, b.few, room));
       few = omega (arith, a.few, b.few);
     }
-
-pub lines_end : {text exit : Bytes} {at end : ℕ} (table : List ℕ) (i n : ℕ) → i ≤ n → n ≤ i → AddsThe (RowLines (rows_of i table)) (84 * i) text exit at end →
-    AddsThe (RowLines (rows_of n table)) (84 * n) text exit at end
-lines_end {text} {exit} {at} {end} table i n h k a =
-    let z : i ≡ n = omega arith in
-    subst (λ (m : ℕ). AddsThe (RowLines (rows_of m table)) (84 * m) text exit at end) z a
 
 -- the words of a refusal, by what it is about
 module _ (name : Input) {a b : ℕ} (p : a ≡ input_number name) (q : b ≡ input_number input.Schema) where
