@@ -6,9 +6,11 @@ mod head;
 mod rows;
 mod sections;
 
-fn main() {
-    head::run();
-    file::run();
-    rows::run();
-    sections::run();
+use std::io;
+
+fn main(rt: HostRuntime) -> io::Result<()> {
+    head::run(&rt)?;
+    file::run(&rt)?;
+    rows::run(&rt)?;
+    sections::run(&rt)
 }

@@ -3,61 +3,63 @@ use crate::head::{show_error, show_number};
 use section::check::check_section;
 use section::list::list_section;
 use section::read::RowsRead;
-
-const OUT: i32 = 1;
+use std::io;
 
 // Prints a line for each.
-pub fn run() {
+pub fn run(rt: &impl Print) -> io::Result<()> {
     count_rows(
-        b"section under S, empty: ",
+        rt,
+        "section under S, empty: ",
         b"\x03\x03\x00\x82\x01\x01\x0A\x11\x01",
         b"",
-    );
+    )?;
     count_rows(
-        b"section under T: ",
+        rt,
+        "section under T: ",
         b"\x02\x03\x00\x88\x01\x00\x07\x01\x11\x00",
         b"\x07\x05\x00\x00\x00\x87\x07\x00\x00\x00\x2A\x8A\x07\x00\x00\x00\x80\x00\x2B\x0F",
-    );
+    )?;
     show_second(
-        b"section under T, second row: ",
+        rt,
+        "section under T, second row: ",
         b"\x02\x03\x00\x88\x01\x00\x07\x01\x11\x00",
         b"\x07\x05\x00\x00\x00\x87\x07\x00\x00\x00\x2A\x8A\x07\x00\x00\x00\x80\x00\x2B\x0F",
-    );
+    )
 }
 
 // How many rows a section has.
-fn count_rows(name: &[u8], file: &[u8], section: &[u8]) {
-    io::write_all(OUT, name);
+fn count_rows(rt: &impl Print, name: &str, file: &[u8], section: &[u8]) -> io::Result<()> {
+    print!(rt; "{name}")?;
     match check_section(file, section) {
-        RowsRead::Refused(e) => show_error(e),
+        RowsRead::Refused(e) => show_error(rt, e),
         RowsRead::Rows(n) => {
-            show_number(n);
-            io::write_all(OUT, b" rows\n");
+            show_number(rt, n)?;
+            println!(rt; " rows")
         }
     }
 }
 
 // A number of a table.
-fn show_entry(n: u32) {
-    show_number(n as usize);
+fn show_entry(rt: &impl Print, n: u32) -> io::Result<()> {
+    show_number(rt, n as usize)
 }
 
 // The second of a section's two rows, as the table has it.
-fn show_second(name: &[u8], file: &[u8], section: &[u8]) {
-    io::write_all(OUT, name);
+fn show_second(rt: &impl Print, name: &str, file: &[u8], section: &[u8]) -> io::Result<()> {
+    print!(rt; "{name}")?;
     let mut table = [0u32; 8];
     match list_section(file, section, &mut table) {
-        RowsRead::Refused(e) => show_error(e),
+        RowsRead::Refused(e) => show_error(rt, e),
         RowsRead::Rows(n) => {
-            io::write_all(OUT, b"kind ");
-            show_entry(table[4]);
-            io::write_all(OUT, b", child id ");
-            show_entry(table[5]);
-            io::write_all(OUT, b", original at ");
-            show_entry(table[6]);
-            io::write_all(OUT, b", update at ");
-            show_entry(table[7]);
-            io::write_all(OUT, b"\n");
+            print!(rt; "kind ")?;
+            show_entry(rt, table[4])?;
+            print!(rt; ", child id ")?;
+            show_entry(rt, table[5])?;
+            print!(rt; ", original at ")?;
+            show_entry(rt, table[6])?;
+            print!(rt; ", update at ")?;
+            show_entry(rt, table[7])?;
+            println!(rt)
         }
     }
 }

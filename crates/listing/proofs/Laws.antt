@@ -1,71 +1,85 @@
 -- Lines made piece by piece, and the checks in front of a listing.
 -- Assumes nothing.
-use Prim.Native.Nat.{ℕ, zero, suc, ◌+◌, ◌-◌, ◌*◌, ◌/◌, ◌^◌, ◌<◌, ◌≤◌}
+use Prim.Native.Nat.{ℕ, zero, suc, ◌+◌, ◌-◌, ◌*◌, ◌/◌, ◌%◌, ◌^◌, ◌<◌, ◌≤◌}
 use mathlib.Core.Path.{◌≡◌, refl, sym, ap, ◌∙◌, subst}
 use mathlib.Core.List.{List, [], ◌∷◌, ◌++◌, append-nil}
-use mathlib.Core.Bool.{Bool, true, false}
-use native.Mathlib.Nat.{pow-le-pow_right, zero-lt-suc}
+use native.Mathlib.Nat.{pow-suc}
 use native.Mathlib.Numerals.{add-one}
 use native.Mathlib.Omega.{arith}
 use lib.ListN.{length, take, drop, get_or, length-append, take-append-drop}
 use lib.Seq.{take-append_seam, get_or-drop}
 use lib.Dec.{leb}
-use borrow.Author.Tests.{le-leb, lt-leb, leb-true, leb-false, eq-eqb, ne_eqb}
+use borrow.Author.Tests.{le-leb, lt-leb, leb-true, eq-eqb, ne_eqb}
 use Rattle.wire.specs.declared.error.Input.{Input}
 use Rattle.wire.specs.declared.error.Input.TheVariants as input
 use Rattle.wire.specs.declared.error.Error.{Error}
 use Rattle.wire.specs.Errors.{code_of, input_number}
-use Rattle.wire.specs.Read.{Bytes, Read, ok, bad, ◌>>=◌, check, about, sized, refused}
+use Rattle.wire.specs.Read.{Bytes, Read, ok, bad, check, about, refused}
 use Rattle.wire.specs.Output.{put}
 use Rattle.wire.proofs.Laws.{put_fits, put_put, length_put}
 use Rattle.wire.proofs.Pieces.{bind_ok, check_ok, about_ok, ok_ok}
-use Rattle.io.specs.Counts.{IsPrefixLen}
-use Rattle.io.specs.Digits.{last_digits, IsDigitCount}
-use Rattle.tree.specs.Schemas.{Schema, read_schemas}
+use Rattle.std.specs.Fmt.{decimal}
+use Rattle.std.proofs.lemmas.Fmt.{decimal_by_steps, length-decimal-le}
 use Rattle.grammar.specs.Grammar.{Row, entry}
-use Rattle.grammar.specs.Reader.{section}
 use Rattle.section.specs.Table.{table_numbers, fitting, rows_checked, rows_listed, row_count, table_after}
 use Rattle.section.proofs.Listing.{rows_told_lem, error_told}
-use Rattle.listing.specs.Lines.{space, newline, rows_word, at_word, CountLine, count_line, RowLine, row_line, RowLines, no_lines, one_more, sheet_refused, rows_refused, refusal_words, RefusalLine, refusal_line, Text, rows_text, refusal_text, rows_of, Adds, AddsNumber, AddsThe}
+use Rattle.listing.specs.Lines.{last_digits, IsDigitCount, Decimal, space, newline, rows_word, at_word, CountLine, count_line, RowLine, row_line, RowLines, no_lines, one_more, sheet_refused, rows_refused, refusal_words, RefusalLine, refusal_line, Text, rows_text, refusal_text, rows_of, Adds, AddsNumber, AddsThe}
 use Rattle.listing.specs.Listing.{file_limit, listing}
 
--- a number of 64 bits has 20 digits at most
-pub few_digits : (n k : ℕ) → n < 18446744073709551616 → IsDigitCount 10 1 n k → k ≤ 20
-few_digits n k small f = go (leb k 20) refl
+-- the text of a number of 64 bits is that number in decimal
+pub decimal_spelled : (n : ℕ) → n < 2 ^ 64 → Decimal n (decimal n)
+unfolding last_digits
+decimal_spelled = decimal_by_steps Decimal one more
   where
-    go : (b : Bool) → leb k 20 ≡ b → k ≤ 20
-    go true e = leb-true _ _ e
-    go false e =
-        let many : 20 < k = leb-false _ _ e in
-        let far : 20 ≤ k - 1 = omega arith in
-        let most : 10 ^ 20 ≤ 10 ^ (k - 1) = pow-le-pow_right (zero-lt-suc 9) far in
-        let least : 10 ^ (k - 1) ≤ n = f.2 (omega arith) in
-        omega arith
+    one : (n : ℕ) → n < 10 → Decimal n ((48 + n) ∷ [])
+    one n small =
+        let same : n % 10 ≡ n = omega arith in
+        record { places = 1; fewest = (omega arith, omega arith, λ h. absurd (omega arith)); spelled = rw same refl }
+
+    more : (n : ℕ) (text : Bytes) → 10 ≤ n → Decimal (n / 10) text → Decimal n (text ++ ((48 + n % 10) ∷ []))
+    more n text large front =
+        record {
+          places = suc front.places;
+          fewest = (omega arith, holds, needed);
+          spelled = ap (λ (l : Bytes). l ++ ((48 + n % 10) ∷ [])) front.spelled;
+        }
+      where
+        holds : n < 10 ^ suc front.places
+        holds = let power = pow-suc 10 front.places in omega (arith, front.fewest.1, power)
+
+        needed : 1 < suc front.places → 10 ^ (suc front.places - 1) ≤ n
+        needed h = let less : suc front.places - 1 ≡ front.places = omega arith in rw less (by front.places front.fewest)
+          where
+            by : (k : ℕ) → IsDigitCount (n / 10) k → 10 ^ k ≤ n
+            by zero f = absurd (omega (arith, f.0))
+            by (suc zero) f = omega arith
+            by (suc (suc k)) f =
+                let less : suc (suc k) - 1 ≡ suc k = omega arith in
+                let least : 10 ^ suc k ≤ n / 10 = rw (← less) (f.2 (omega arith)) in
+                omega (arith, least, pow-suc 10 (suc k))
 
 -- digits and a byte behind them, copied into a line
 pub number_added :
     {line line₁ line₂ shown : Bytes}
-    {at n k byte : ℕ}
+    {at n byte : ℕ}
     → at + 21 ≤ length line
-    → k ≤ 20
-    → k ≡ length shown
-    → IsDigitCount 10 1 n k
-    → shown ≡ last_digits 10 k n
+    → n < 2 ^ 64
+    → shown ≡ decimal n
     → line₁ ≡ put line at shown
-    → line₂ ≡ put line₁ (at + k) (byte ∷ [])
-    → AddsNumber line line₂ at n byte (at + k + 1)
-number_added {line} {line₁} {line₂} {shown} {at} {n} {k} {byte} room few size f s e₁ e₂ =
+    → line₂ ≡ put line₁ (at + length shown) (byte ∷ [])
+    → AddsNumber line line₂ at n byte (at + length shown + 1)
+number_added {line} {line₁} {line₂} {shown} {at} {n} {byte} room small s e₁ e₂ =
+    let few : length shown ≤ 20 = rw s (length-decimal-le 20 n (omega arith) (omega arith) small) in
     record {
       text = shown;
-      decimal = record { places = k; fewest = f; spelled = s };
-      few = omega arith;
+      decimal = rw s (decimal_spelled n small);
+      few = few;
       adds =
           record {
             holds =
                 e₂
-                ∙ ap (λ (o : Bytes). put o (at + k) (byte ∷ [])) e₁
-                ∙ ap (λ (m : ℕ). put (put line at shown) (at + m) (byte ∷ [])) size
-                ∙ put_put line at shown (byte ∷ []) (omega arith);
+                ∙ ap (λ (o : Bytes). put o (at + length shown) (byte ∷ [])) e₁
+                ∙ put_put line at shown (byte ∷ []) (omega (arith, few));
             ends = rw length-append (omega arith);
           };
     }
@@ -83,13 +97,13 @@ adds_next {text} {laid} {exit} {w} {v} {at} {p} {end} a b h =
     }
 
 -- the text that was made
-pub text_made : {text exit w : Bytes} {end : ℕ} → Adds text exit 0 w end → end ≤ length text → IsPrefixLen end exit × (w ≡ take end exit)
+pub text_made : {text exit w : Bytes} {end : ℕ} → Adds text exit 0 w end → end ≤ length text → (end ≤ length exit) × (w ≡ take end exit)
 text_made {text} {exit} {w} {end} a h =
     let e : exit ≡ w ++ drop (0 + length w) text = a.holds ∙ put_fits text 0 w (omega (arith, a.ends)) in
     let n : end ≡ length w = omega (arith, a.ends) in
     let t : take end exit ≡ w = rw (n, e) (take-append_seam w (drop (0 + length w) text)) in
     let l : length exit ≡ length text = ap length a.holds ∙ length_put text 0 w in
-    ((omega arith, n ∙ ap length (sym t)), sym t)
+    (omega arith, sym t)
 
 -- The lines, each of its pieces.
 pub count_made : {text t₁ t₂ : Bytes} {n p₁ p₂ : ℕ} → 84 ≤ length text → Adds text t₁ 0 rows_word p₁ → AddsNumber t₁ t₂ p₁ n 10 p₂ × (p₂ ≤ p₁ + 21) →
@@ -179,12 +193,6 @@ lines_next table i a b room =
       few = omega (arith, a.few, b.few);
     }
 
-pub lines_end : {text exit : Bytes} {at end : ℕ} (table : List ℕ) (i n : ℕ) → i ≤ n → n ≤ i → AddsThe (RowLines (rows_of i table)) (84 * i) text exit at end →
-    AddsThe (RowLines (rows_of n table)) (84 * n) text exit at end
-lines_end {text} {exit} {at} {end} table i n h k a =
-    let z : i ≡ n = omega arith in
-    subst (λ (m : ℕ). AddsThe (RowLines (rows_of m table)) (84 * m) text exit at end) z a
-
 -- the words of a refusal, by what it is about
 module _ (name : Input) {a b : ℕ} (p : a ≡ input_number name) (q : b ≡ input_number input.Schema) where
   pub of_sheet : a ≡ b → sheet_refused ≡ refusal_words name
@@ -215,14 +223,14 @@ rows_room sheet rows numbers n e =
 module _ (sheet rows : Bytes) (numbers : ℕ) {text : Bytes} where
   pub error_text : {exit : Bytes} {end : ℕ} (e : Error) → refused e ≡ row_count (listing sheet rows numbers) → 84 ≤ length text →
       AddsThe (RefusalLine (refusal_words e.input) (code_of e.kind) e.offset) 84 text exit 0 end →
-      IsPrefixLen end exit × Text (listing sheet rows numbers) (take end exit)
+      (end ≤ length exit) × Text (listing sheet rows numbers) (take end exit)
   error_text {exit} {end} e q room a =
       let m = text_made a.adds (omega (arith, a.few, room)) in
       (m.0, rw (error_told (listing sheet rows numbers) e q) (subst (Text (refused e)) m.1 (refusal_text a.is)))
 
   pub listing_text : {laid exit : Bytes} {n p end : ℕ} (table after : List ℕ) → length table ≡ numbers → ok n ≡ row_count (listing sheet rows numbers) →
       after ≡ table_after (listing sheet rows numbers) table → 84 + 21 * numbers ≤ length text → AddsThe (CountLine n) 84 text laid 0 p →
-      AddsThe (RowLines (rows_of n after)) (84 * n) laid exit p end → IsPrefixLen end exit × Text (listing sheet rows numbers) (take end exit)
+      AddsThe (RowLines (rows_of n after)) (84 * n) laid exit p end → (end ≤ length exit) × Text (listing sheet rows numbers) (take end exit)
   unfolding table_after
   listing_text {laid} {exit} {n} {p} {end} table after size q leaves room a b =
       let (rs, e, z) = rows_told_lem (listing sheet rows numbers) n q in

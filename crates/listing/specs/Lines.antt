@@ -1,19 +1,27 @@
 -- Promise: the lines that the program prints (document 01, "Examples").
 -- Assumes nothing.
-use Rattle.std.specs.Prelude.{ℕ, zero, suc, ◌+◌, ◌≤◌, ◌≡◌, List, [], ◌∷◌, ◌++◌, length, get_or, drop, eqb}
+use Rattle.std.specs.Prelude.{ℕ, zero, suc, ◌+◌, ◌-◌, ◌/◌, ◌%◌, ◌^◌, ◌<◌, ◌≤◌, ◌≡◌, List, [], ◌∷◌, ◌++◌, length, get_or, drop, eqb}
 use Rattle.wire.specs.declared.error.Input.{Input}
 use Rattle.wire.specs.declared.error.Input.TheVariants as input
 use Rattle.wire.specs.Errors.{input_number}
 use Rattle.wire.specs.Read.{Bytes, Read, ok, bad, pick}
 use Rattle.wire.specs.Output.{put}
 use Rattle.grammar.specs.Grammar.{Row, entry}
-use Rattle.io.specs.Digits.{last_digits, IsDigitCount}
+
+-- the last k decimal digits of n, the most significant first
+unfoldable pub last_digits : ℕ → ℕ → Bytes
+last_digits zero n = []
+last_digits (suc k) n = last_digits k (n / 10) ++ ((48 + n % 10) ∷ [])
+
+-- n takes k decimal digits: one at least, and no more than it needs
+abbrev pub IsDigitCount : ℕ → ℕ → Type 0
+IsDigitCount n k = (1 ≤ k) × (n < 10 ^ k) × (1 < k → 10 ^ (k - 1) ≤ n)
 
 -- A number in decimal, with no zero in front.
 pub record Decimal (n : ℕ) (text : Bytes) : Type 0 where
   pub places : ℕ
-  pub fewest : IsDigitCount 10 1 n places
-  pub spelled : text ≡ last_digits 10 places n
+  pub fewest : IsDigitCount n places
+  pub spelled : text ≡ last_digits places n
 
 -- a space, and a newline
 abbrev pub space : Bytes

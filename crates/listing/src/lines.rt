@@ -4,6 +4,7 @@ ghost use Rattle.std.specs.Prelude.{◌+◌, ◌*◌, ◌≤◌, length};
 ghost use Rattle.wire.specs.Errors.{code_of};
 ghost use Rattle.listing.specs.Lines.{Adds, AddsNumber, AddsThe, CountLine, RowLine, RowLines, RefusalLine, refusal_words, rows_of};
 
+use itoa::Buffer;
 use wire::bytes::copy_into;
 use wire::error::{Error, Input};
 
@@ -25,11 +26,12 @@ fn add_number(text: &mut [u8], at: usize, n: usize, byte: u8) -> usize
     requires { at + 21 ≤ length text.old }
     ensures { AddsNumber text.old text.new at n byte result × (result ≤ at + 21) }
 {
-    let mut digits = [0u8; 20];
-    let k = io::decimal(n as u64, &mut digits);
-    copy_into(text, at, &digits[..k]);
-    copy_into(text, at + k, &[byte]);
-    at + k + 1
+    let mut buffer = Buffer::new();
+    let digits = buffer.format(n).as_bytes();
+    let end = at + digits.len();
+    copy_into(text, at, digits);
+    copy_into(text, end, &[byte]);
+    end + 1
 }
 
 // The first line: how many rows follow.

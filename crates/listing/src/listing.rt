@@ -1,7 +1,6 @@
 // The listing: the rows of a section under a schema file, or why one of the two is refused.
 ghost use Rattle.std.specs.Prelude.{◌+◌, ◌*◌, ◌≤◌, length, take};
 ghost use Rattle.section.specs.Table.{Listed};
-ghost use Rattle.io.specs.Counts.{IsPrefixLen};
 ghost use Rattle.listing.specs.Lines.{Text};
 ghost use Rattle.listing.specs.Listing.{listing};
 
@@ -17,10 +16,12 @@ pub const FILE_LIMIT: usize = 16_384;
 fn list_rows(sheet: &[u8], rows: &[u8], table: &mut [u32]) -> RowsRead
     ensures { Listed (listing sheet.now rows.now (length table.old)) table.old table.new result }
 {
-    if sheet.len() > FILE_LIMIT {
+    let sheet_over = sheet.len() > FILE_LIMIT;
+    if sheet_over {
         return RowsRead::Refused(Error::at_start(ErrorKind::TooLarge, Input::Schema));
     }
-    if rows.len() > FILE_LIMIT {
+    let rows_over = rows.len() > FILE_LIMIT;
+    if rows_over {
         return RowsRead::Refused(Error::at_start(ErrorKind::TooLarge, Input::Section));
     }
     list_section(sheet, rows, table)
@@ -29,7 +30,8 @@ fn list_rows(sheet: &[u8], rows: &[u8], table: &mut [u32]) -> RowsRead
 // The text of a listing. How many bytes it has.
 pub(crate) fn list_text(sheet: &[u8], rows: &[u8], table: &mut [u32], text: &mut [u8]) -> usize
     requires { 84 + 21 * length table.old ≤ length text.old }
-    ensures { IsPrefixLen result text.new × Text (listing sheet.now rows.now (length table.old)) (take result text.new) }
+    ensures size { result ≤ length text.new }
+    ensures text { Text (listing sheet.now rows.now (length table.old)) (take result text.new) }
 {
     match list_rows(sheet, rows, table) {
         RowsRead::Refused(e) => add_error(text, e),

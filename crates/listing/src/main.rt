@@ -7,6 +7,8 @@ mod listing;
 
 use files::read_file;
 use listing::{FILE_LIMIT, list_text};
+use std::io;
+use std::io::Write;
 
 // One byte more than a file may have, so that a larger one shows.
 const BUFFER: usize = FILE_LIMIT + 1;
@@ -16,11 +18,11 @@ const TABLE: usize = 4_096;
 
 const TEXT: usize = 86_100;
 
-fn main() {
+fn main(rt: HostRuntime) -> io::Result<()> {
     let mut sheet = [0u8; BUFFER];
-    let sheet_size = read_file(b"sheet.bin", &mut sheet);
+    let sheet_size = read_file(&rt, "sheet.bin", &mut sheet);
     let mut rows = [0u8; BUFFER];
-    let rows_size = read_file(b"rows.bin", &mut rows);
+    let rows_size = read_file(&rt, "rows.bin", &mut rows);
     let mut table = [0u32; TABLE];
     let mut text = [0u8; TEXT];
     let size = list_text(
@@ -29,5 +31,5 @@ fn main() {
         &mut table,
         &mut text,
     );
-    io::write_all(libc::STDOUT_FILENO, &text[..size]);
+    io::writer(&rt).write_all(&text[..size])
 }
