@@ -1,24 +1,26 @@
--- Three numbers are stored.
+-- Two numbers are stored where they fit.
 -- Assumes nothing.
-use lib.ListN.{length-set}
+use mathlib.Core.Path.{sym}
 use native.Mathlib.Omega.{arith}
-use Rattle.batch.proofs.Laid.{put_three}
+use lib.ListN.{length-set}
+use Rattle.wire.proofs.Laws.{put_not}
+use Rattle.batch.proofs.Laid.{put_two}
 use borrow.Author.Rules.{rules}
 use Rattle.batch.proofs.find.put_span.Statement.{statement}
 use Rattle.batch.proofs.find.put_span.Tie as tie
 
-slice-write-spans-2 : tie.Need-slice-write-spans-2
-slice-write-spans-2 c = simp length-set (omega (arith, c.requires))
-
-slice-write-spans-3 : tie.Need-slice-write-spans-3
-slice-write-spans-3 c = simp length-set (omega (arith, c.requires))
-
 returns : tie.Need-returns
-returns c = put_three _ _ _ _ _ c.requires
+returns c = sym (put_not _ _ _ (omega (arith, c.if1.true)))
+
+slice-write-spans-2 : tie.Need-slice-write-spans-2
+slice-write-spans-2 c = simp length-set (omega (arith, c.if1.false))
+
+returns-2 : tie.Need-returns-2
+returns-2 c = put_two _ _ _ _ (omega (arith, c.if1.false))
 
 pub put-span-spec : {M : Type 1} → statement M
 put-span-spec =
     tie.close
     (tie.spec
-    (λ c. search rules) (λ c. search rules) (λ c. search rules) (λ c. search rules) (λ c. search rules) slice-write-spans-2 (λ c. search rules)
-    (λ c. search rules) slice-write-spans-3 (λ c. search rules) returns)
+    returns (λ c. search rules) (λ c. search rules) (λ c. search rules) (λ c. search rules) (λ c. search rules) slice-write-spans-2
+    (λ c. search rules) returns-2)

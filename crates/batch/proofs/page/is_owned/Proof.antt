@@ -3,10 +3,10 @@
 use mathlib.Core.Path.{sym, ◌∙◌}
 use native.Mathlib.Omega.{arith}
 use Prim.Native.Nat.{◌+◌, ◌*◌}
-use Rattle.batch.proofs.Parts.{owned_parent, owned_other, owned_child}
+use Rattle.batch.proofs.Owners.{owned_parent, owned_other, owned_child}
 use borrow.Author.Rules.{rules}
-use Rattle.batch.proofs.find.is_owned.Statement.{statement}
-use Rattle.batch.proofs.find.is_owned.Tie as tie
+use Rattle.batch.proofs.page.is_owned.Statement.{statement}
+use Rattle.batch.proofs.page.is_owned.Tie as tie
 
 returns : tie.Need-returns
 returns c =

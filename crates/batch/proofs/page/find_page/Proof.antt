@@ -6,10 +6,10 @@ use lib.ListN.{length}
 use Rattle.plan.specs.Plans.{lent}
 use Rattle.batch.specs.Spans.{planned}
 use Rattle.batch.specs.Pages.{rows_in}
-use Rattle.batch.proofs.Finding.{page_length, found_large, found_fewer, found_behind, found_page}
+use Rattle.batch.proofs.PageFinding.{page_length, found_large, found_fewer, found_behind, found_page}
 use borrow.Author.Rules.{rules}
-use Rattle.batch.proofs.find.find_page.Statement.{statement}
-use Rattle.batch.proofs.find.find_page.Tie as tie
+use Rattle.batch.proofs.page.find_page.Statement.{statement}
+use Rattle.batch.proofs.page.find_page.Tie as tie
 
 returns : tie.Need-returns
 returns c =
