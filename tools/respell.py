@@ -33,6 +33,7 @@ LEMMAS = [
     ("demands", "Trips", "laid_from"),
     ("demands", "FileExactly", "no_number"),
     ("section", "Listing", "rows_told"),
+    ("column", "Stops", "no_stop"),
 ]
 
 # Labels of a record, constructors and names of another module: they don't stand beside the definition.

@@ -2,7 +2,7 @@
 -- Assumes nothing.
 use Prim.Native.Nat.{ℕ, ◌+◌, ◌*◌, ◌≤◌}
 use mathlib.Core.Path.{◌≡◌, refl, sym, ap, ◌∙◌}
-use mathlib.Core.List.{List, [], ◌∷◌, ◌++◌, append_nil}
+use mathlib.Core.List.{List, [], ◌∷◌, ◌++◌, append-nil}
 use native.Mathlib.Omega.{arith}
 use lib.ListN.{length, take, drop, set, length-append, take-append-drop}
 use lib.Seq.{paste, paste-zero, paste-suc}
@@ -29,7 +29,7 @@ laid_piece i [] numbers h =
     sym (put_fits numbers (2 * i) [] (omega arith) ∙ rw z (go numbers (2 * i)))
   where
     go : (t : List ℕ) (m : ℕ) → take m t ++ [] ++ drop m t ≡ t
-    go t m = rw append_nil (take-append-drop m t)
+    go t m = rw append-nil (take-append-drop m t)
 laid_piece i (x ∷ xs) numbers h =
     let n : length (put numbers (2 * i) (span_numbers x)) ≡ length numbers = length_put numbers (2 * i) (span_numbers x) in
     let z : 2 * (i + 1) ≡ 2 * i + length (span_numbers x) = omega arith in

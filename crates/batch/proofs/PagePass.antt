@@ -2,7 +2,7 @@
 -- Assumes nothing.
 use Prim.Native.Nat.{ℕ, zero, suc, ◌+◌, ◌*◌, ◌-◌, ◌/◌, ◌<◌, ◌≤◌}
 use mathlib.Core.Path.{◌≡◌, refl, sym, ap, ◌∙◌}
-use mathlib.Core.List.{List, [], ◌∷◌, ◌++◌, append_nil, append_assoc}
+use mathlib.Core.List.{List, [], ◌∷◌, ◌++◌, append-nil, append_assoc}
 use native.Mathlib.Omega.{arith}
 use lib.ListN.{length, length-append}
 use Rattle.wire.specs.declared.error.Error.{Error}
@@ -30,12 +30,12 @@ module _ (look : Bytes → Read Answer) (s : Bytes) (rows : ℕ) where
   ahead_end : (xs : List Located) (room : ℕ) → ahead xs room [] ≡ ok (page xs rows)
   unfolding ahead page_from first_in page_of
   ahead_end [] room = refl
-  ahead_end (x ∷ xs) room = rw append_nil refl
+  ahead_end (x ∷ xs) room = rw append-nil refl
 
   ahead_full : (xs : List Located) (o : Numbered) (os : List Numbered) → ahead xs zero (o ∷ os) ≡ ok (page xs o.number)
   unfolding ahead page_from first_in page_of
   ahead_full [] o os = refl
-  ahead_full (x ∷ xs) o os = rw append_nil refl
+  ahead_full (x ∷ xs) o os = rw append-nil refl
 
   module _ (room : ℕ) (o : Numbered) (os : List Numbered) where
     ahead_span : (xs : List Located) (x : Span) → span_in look s o.row.original ≡ ok x → ahead xs (suc room) (o ∷ os) ≡ ahead (xs ++ located o.number x ∷ []) room os
@@ -52,7 +52,7 @@ module _ (look : Bytes → Read Answer) (s : Bytes) (rows : ℕ) where
     unfolding ahead page_of
     ahead_refused x xs e q =
         ap (λ (r : Read Span). ok (behind (x ∷ xs) (page_with o r (page_of look s rows room os)))) q
-        ∙ ap (λ (l : List Located). ok (page (x ∷ l) o.number)) (append_nil xs)
+        ∙ ap (λ (l : List Located). ok (page (x ∷ l) o.number)) (append-nil xs)
 
 module _ (look : Bytes → Read Answer) (s : Bytes) (table : List ℕ) (rows from owner : ℕ) (first : List ℕ) where
   -- Before row i, with so many spans found and the numbers as they are.

@@ -63,9 +63,9 @@ refused_length t s p e = go t.variable refl (leb (p + prefix_of t) (length s)) r
 module _ (p : Plan) (s : Bytes) where
   of_unset : (mask n b : ℕ) → OfError (RowErrorAt (length s)) (unset_from s mask n b)
   unfolding unset_from
-  of_unset mask zero b = row.no-error
+  of_unset mask zero b = row.no_error
   of_unset mask (suc n) b =
-      of_bind _ _ (of_check (not (pick (eqb (top_bit mask b) 1) (bit_set s b) false)) 12 (b / 8) (λ e. row.chapter-bit (bit_inside s b (go (eqb (top_bit mask b) 1) e))))
+      of_bind _ _ (of_check (not (pick (eqb (top_bit mask b) 1) (bit_set s b) false)) 12 (b / 8) (λ e. row.chapter_bit (bit_inside s b (go (eqb (top_bit mask b) 1) e))))
       (λ _ _. of_unset mask n (suc b))
     where
       go : (t : Bool) → not (pick t (bit_set s b) false) ≡ false → not (bit_set s b) ≡ false
@@ -74,7 +74,7 @@ module _ (p : Plan) (s : Bytes) where
 
   pub of_planned_open : OfError (RowErrorAt (length s)) (planned_open p s)
   unfolding planned_open
-  of_planned_open = of_bind _ _ (row.of-whole s 0 (planned_map p)) (λ _ _. of_bind _ _ (of_unset (planned_chapters p) 64 0) (λ _ _. row.no-error))
+  of_planned_open = of_bind _ _ (row.of_whole s 0 (planned_map p)) (λ _ _. of_bind _ _ (of_unset (planned_chapters p) 64 0) (λ _ _. row.no_error))
 
   of_passed : (t : Stop) (w : Place) → OfError (RowErrorAt (length s)) (passed (bit_set s) s t w)
   unfolding passed
@@ -87,13 +87,13 @@ module _ (p : Plan) (s : Bytes) where
           (pick u (ok (rows.place (w.at + t.gap + span_at t s (w.at + t.gap)) (w.prefixes + one t.variable)))
           (bad (span_error t s (w.at + t.gap)) (w.at + t.gap) input.Single))
           (ok (rows.place (w.at + t.gap) w.prefixes)))
-      go true true e = row.no-error
-      go true false e = let (c, l) = refused_length t s (w.at + t.gap) e in rw (← c) (an_error (row.length-rule l))
-      go false u e = row.no-error
+      go true true e = row.no_error
+      go true false e = let (c, l) = refused_length t s (w.at + t.gap) e in rw (← c) (an_error (row.length_rule l))
+      go false u e = row.no_error
 
   of_leaps : (ts : List Stop) (w : Place) → OfError (RowErrorAt (length s)) (leaps (bit_set s) s ts w)
   unfolding leaps
-  of_leaps [] w = row.no-error
+  of_leaps [] w = row.no_error
   of_leaps (t ∷ ts) w = of_bind _ _ (of_passed t w) (λ v _. of_leaps ts v)
 
   of_field_in : (n at : ℕ) → OfError (RowErrorAt (length s)) (field_in n s at)
@@ -101,8 +101,8 @@ module _ (p : Plan) (s : Bytes) where
   of_field_in n at = go (is_variable (unpacked_column n))
     where
       go : (t : Bool) → OfError (RowErrorAt (length s)) (pick t (variable_at (unpacked_column n) s at) (bytes_at s at (width_in n) 0))
-      go true = row.of-variable s (unpacked_column n) at
-      go false = row.of-bytes s at (width_in n) 0
+      go true = row.of_variable s (unpacked_column n) at
+      go false = row.of_bytes s at (width_in n) 0
 
   pub of_planned_answer : (k : ℕ) → OfError (RowErrorAt (length s)) (planned_answer p s k)
   unfolding planned_answer jumped landed
@@ -112,11 +112,11 @@ module _ (p : Plan) (s : Bytes) where
           (t u : Bool) →
           OfError (RowErrorAt (length s))
           (pick t (ok rows.chapter) (pick u (jumped p s k >>= λ w. landed (planned_word p k) s w >>= (λ f. ok (rows.field f))) (ok rows.null)))
-      go true u = row.no-error
+      go true u = row.no_error
       go false true =
-          of_bind _ _ (of_bind _ _ (of_leaps (map by_bit (stops_to p k)) _) (λ _ _. row.no-error))
-          (λ w _. of_bind _ _ (of_bind _ _ (of_field_in (planned_word p k) w.at) (λ _ _. row.no-error)) (λ _ _. row.no-error))
-      go false false = row.no-error
+          of_bind _ _ (of_bind _ _ (of_leaps (map by_bit (stops_to p k)) _) (λ _ _. row.no_error))
+          (λ w _. of_bind _ _ (of_bind _ _ (of_field_in (planned_word p k) w.at) (λ _ _. row.no_error)) (λ _ _. row.no_error))
+      go false false = row.no_error
 
 -- The errors of a look-up: about the row, at most n into it; about the column number.
 pub data RowErrors {A : Type 0} (n : ℕ) : Read A → Type 0 where
@@ -131,7 +131,7 @@ errors_bind of_column k = of_column
 
 about_row : {A : Type 0} {n : ℕ} {r : Read A} → OfError (λ (c o : ℕ). o ≤ n) r → RowErrors n (about input.Row r)
 unfolding about
-about_row row.no-error = no_error
+about_row row.no_error = no_error
 about_row (an_error h) = in_row h
 
 about_column : {n : ℕ} (t : Bool) → RowErrors n (about input.Column (check t 18 0))
@@ -146,9 +146,9 @@ error_inside {o = o} of_column e = let v : 0 ≡ o = cc in omega arith
 
 row_error_inside : {n c o : ℕ} → RowErrorAt n c o → o ≤ n
 row_error_inside row.short = omega arith
-row_error_inside (row.chapter-bit h) = omega arith
-row_error_inside (row.force-rule h) = omega arith
-row_error_inside (row.length-rule h) = omega arith
+row_error_inside (row.chapter_bit h) = omega arith
+row_error_inside (row.force_rule h) = omega arith
+row_error_inside (row.length_rule h) = omega arith
 
 -- every error of a look-up
 pub row_errors : (row : Bytes) (p : Plan) (k : ℕ) → RowErrors (length row) (planned_row p row k)

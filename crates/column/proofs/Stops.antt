@@ -64,9 +64,9 @@ module _ (c : Column) where
   stop_plain e n = rw (e, n)
 
   -- no stop and no chapter: not nullable, of fixed width
-  pub no_stop : is_stop c ≡ false → is_chapter c ≡ false → (is_nullable c ≡ false) × (is_variable c ≡ false)
+  pub no_stop_lem : is_stop c ≡ false → is_chapter c ≡ false → (is_nullable c ≡ false) × (is_variable c ≡ false)
   unfolding is_stop
-  no_stop h x = go (is_nullable c) refl (sym (rw x) ∙ h)
+  no_stop_lem h x = go (is_nullable c) refl (sym (rw x) ∙ h)
     where
       go : (t : Bool) → is_nullable c ≡ t → pick t true (is_variable c) ≡ false → (is_nullable c ≡ false) × (is_variable c ≡ false)
       go true e y = absurd (true≢false y)

@@ -2,7 +2,7 @@
 -- Assumes nothing.
 use Prim.Native.Nat.{ℕ, ◌≤◌, ◌<◌}
 use mathlib.Core.Path.{◌≡◌, refl, sym, ap, ◌∙◌}
-use mathlib.Core.List.{List, [], ◌∷◌, ◌++◌, map, map-map, append_assoc, append_nil}
+use mathlib.Core.List.{List, [], ◌∷◌, ◌++◌, map, map-map, append_assoc, append-nil}
 use mathlib.Core.Bool.{Bool, true, false}
 use native.Mathlib.Omega.{arith}
 use lib.ListN.{length, take, drop, length-append, take-append-drop}
@@ -286,7 +286,7 @@ module _ (file : Bytes) (bytes : AreBytes file) where
       last_answer file first_record (fragment s ∷ []) close ≡ said (told_rows checked)
   unfolding joined any_close
   arrival_whole s checked h e =
-      let a : Arrived (fragment s ∷ []) close s true = record { brings = append_nil s; ends = refl } in
+      let a : Arrived (fragment s ∷ []) close s true = record { brings = append-nil s; ends = refl } in
       arrival_closed a h ∙ ap said (sym e)
 
   -- An empty fragment changes nothing.
@@ -303,7 +303,7 @@ module _ (file : Bytes) (bytes : AreBytes file) where
       go false q =
           let a : Arrived (cs ++ (c ∷ [])) (fragment []) (joined (cs ++ (c ∷ []))) false =
           record {
-            brings = joined_open (cs ++ (c ∷ [])) (fragment [] ∷ []) q ∙ append_nil (joined (cs ++ (c ∷ [])));
+            brings = joined_open (cs ++ (c ∷ [])) (fragment [] ∷ []) q ∙ append-nil (joined (cs ++ (c ∷ [])));
             ends = any_open (cs ++ (c ∷ [])) (fragment [] ∷ []) q;
           } in
           let b : Arrived cs c (joined (cs ++ (c ∷ []))) false = record { brings = refl; ends = q } in
@@ -382,6 +382,6 @@ pub T-arrives : (k : ℕ) → last_answer T first_record (fragment (take k secti
 unfolding joined any_close rows child_kind update_start
 T-arrives k =
     let a : Arrived (fragment (take k section_t) ∷ fragment (drop k section_t) ∷ []) close section_t true =
-    record { brings = ap (λ (x : Bytes). take k section_t ++ x) (append_nil (drop k section_t)) ∙ take-append-drop k section_t; ends = refl } in
+    record { brings = ap (λ (x : Bytes). take k section_t ++ x) (append-nil (drop k section_t)) ∙ take-append-drop k section_t; ends = refl } in
     arrival_closed T T-bytes a (omega arith)
     ∙ ap (λ (r : Read (List Row)). said (row_count r)) ((checked_iff_split T section_t T-schemas T-given (rows 0 T-elements)).1 (T-elements, T-splits, refl))

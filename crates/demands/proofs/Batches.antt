@@ -279,7 +279,7 @@ module _ (file s : Bytes) (S : List Schema) (bytes : AreBytes file) (g : Given f
         let (es, sp, r, listed) = (listed_iff_split file s S g (length table) rs).0 e in
         let after : table_after (rows_listed file s (length table)) table ≡ listing rs table = rw (← r) (split_listed file s S g table es sp (rw r listed)) in
         let front : take (4 * length rs) (listing rs table) ≡ table_numbers rs = take_at (table_numbers rs) (drop (4 * length rs) table) (4 * length rs) (length_numbers rs) in
-        let (xs, q, n) = rows_span (rows_usable S s rs ((grammar.table-iff-split S s rs).1 (es, sp, r))) in
+        let (xs, q, n) = rows_span (rows_usable S s rs ((grammar.table_iff_split S s rs).1 (es, sp, r))) in
         (xs, rw (after, front, rows_of_numbers rs, sized_within s g.within, q, le-leb (2 * length xs) room (omega arith)) refl, n)
 
 -- Over the rows that T's section lists, the child's byte stands at 10, the parent's integer at 1, and the parent's second column is a

@@ -3,7 +3,7 @@
 -- Assumes nothing.
 use Prim.Native.Nat.{ℕ, zero, suc, ◌+◌, ◌≤◌, ◌<◌}
 use mathlib.Core.Path.{◌≡◌, refl, sym, ap, subst, ◌∙◌}
-use mathlib.Core.List.{[], ◌∷◌, ◌++◌, append_nil}
+use mathlib.Core.List.{[], ◌∷◌, ◌++◌, append-nil}
 use mathlib.Core.Logic.{◌↔◌}
 use mathlib.Core.Bool.{Bool, true, false, true≢false}
 use native.Mathlib.Omega.{arith}
@@ -494,7 +494,7 @@ string_told {s} {b} w x at e h p =
 
 -- all bytes are a piece
 whole_piece : (s : Bytes) → Piece s 0 (length s) s
-whole_piece s = record { ends = omega arith; inside = omega arith; splits = sym (rw (drop-length s) (append_nil s)) }
+whole_piece s = record { ends = omega arith; inside = omega arith; splits = sym (rw (drop-length s) (append-nil s)) }
 
 -- the options' reader over coded bytes
 module _ (x y z : Bytes) (async : ℕ) (most : 25 + length x + length y + length z ≤ 65535) (small : async < 65536) where

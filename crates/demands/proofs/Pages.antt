@@ -3,7 +3,7 @@
 -- Assumes nothing.
 use Prim.Native.Nat.{ℕ, zero, suc, ◌+◌, ◌*◌, ◌-◌, ◌≤◌, ◌<◌}
 use mathlib.Core.Path.{◌≡◌, refl, sym, ap, ◌∙◌}
-use mathlib.Core.List.{List, [], ◌∷◌, ◌++◌, map, append_nil}
+use mathlib.Core.List.{List, [], ◌∷◌, ◌++◌, map, append-nil}
 use mathlib.Core.Bool.{Bool, true, false}
 use native.Mathlib.Omega.{arith}
 use lib.ListN.{length, drop, length-append, length-drop}
@@ -212,7 +212,7 @@ module _ (look : Bytes → Read Answer) (s : Bytes) (table : List ℕ) (rows own
   unfolding row_by_row
   pages_row_by_row {from} h (last_page {room = room} {xs = xs} m q) =
       let (u, f, g) = call_page from room h (page xs rows) q in
-      (goes_from from room h).same ∙ rw (g, none_left look s table rows owner) (ap (λ (l : List Located). looked l (ok tt)) (append_nil xs))
+      (goes_from from room h).same ∙ rw (g, none_left look s table rows owner) (ap (λ (l : List Located). looked l (ok tt)) (append-nil xs))
   pages_row_by_row {from} h (then-more {room = room} {next = next} {xs = xs} {ys = ys} {end = end} m q l more) =
       let (u, f, g) = call_page from room h (page xs next) q in
       (goes_from from room h).same ∙ rw (g, pages_row_by_row (omega arith) more) refl
@@ -358,7 +358,7 @@ module _ (file s : Bytes) (S : List Schema) (bytes : AreBytes file) (g : Given f
     listed_found table rs e from room inside =
         let (es, sp, r, listed) = (listed_iff_split file s S g (length table) rs).0 e in
         let after : table_after (rows_listed file s (length table)) table ≡ listing rs table = rw (← r) (split_listed file s S g table es sp (rw r listed)) in
-        let usable : Each (Usable S s) rs = rows_usable S s rs ((grammar.table-iff-split S s rs).1 (es, sp, r)) in
+        let usable : Each (Usable S s) rs = rows_usable S s rs ((grammar.table_iff_split S s rs).1 (es, sp, r)) in
         let behind : List ℕ = drop (4 * length rs) table in
         let long : length (listing rs table) ≡ length table =
         let a : length (listing rs table) ≡ length (table_numbers rs) + length behind = length-append (table_numbers rs) behind in

@@ -178,8 +178,8 @@ module _ (file s : Bytes) (S : List Schema) (g : Given file s S) where
   pub checked_iff_split : (rs : List Row) → rows_checked file s ≡ ok rs ↔ ((es : List Element) × Split S other s es × (rows 0 es ≡ rs))
   unfolding about
   checked_iff_split rs = (
-    (λ e. (grammar.table-iff-split S s rs).0 (about_ok input.Section (section S s) rs (sym (given_checked g) ∙ e))),
-    (λ (es, sp, r). given_checked g ∙ rw ((grammar.table-iff-split S s rs).1 (es, sp, r)) refl),
+    (λ e. (grammar.table_iff_split S s rs).0 (about_ok input.Section (section S s) rs (sym (given_checked g) ∙ e))),
+    (λ (es, sp, r). given_checked g ∙ rw ((grammar.table_iff_split S s rs).1 (es, sp, r)) refl),
   )
 
   -- It is listed if and only if besides the table has room for the rows.
@@ -212,14 +212,14 @@ module _ (file s : Bytes) (S : List Schema) (g : Given file s S) where
     where
       by : (r : Read (List Row)) → section S s ≡ r →
           (code : ℕ) × (offset : ℕ) × (rows_checked file s ≡ bad code offset input.Section) × (rows_listed file s numbers ≡ bad code offset input.Section)
-      by (ok rs) e = let (es, sp, _) = (grammar.table-iff-split S s rs).0 e in absurd (none es sp)
+      by (ok rs) e = let (es, sp, _) = (grammar.table_iff_split S s rs).0 e in absurd (none es sp)
       by (bad c o i) e =
           let q : rows_checked file s ≡ bad c o input.Section = given_checked g ∙ rw e refl in
           (c, o, q, listed_wrong file s numbers c o input.Section q)
 
   -- There is one split at most.
   pub split_unique : (es fs : List Element) → Split S other s es → Split S other s fs → es ≡ fs
-  split_unique es fs p q = grammar.split-unique p q
+  split_unique es fs p q = grammar.split_unique p q
 
   -- With room for the rows, the table lists those of the split, and behind them keeps what it held.
   pub split_listed :
@@ -237,7 +237,7 @@ module _ (file s : Bytes) (S : List Schema) (g : Given file s S) where
   listed_usable table rs e i h =
       let (es, sp, r, room) = (listed_iff_split (length table) rs).0 e in
       let after : table_after (rows_listed file s (length table)) table ≡ listing rs table = rw (← r) (split_listed table es sp (rw r room)) in
-      rw (after, row_in_listing rs (drop (4 * length rs) table) i h) (usable.row-usable S s rs ((grammar.table-iff-split S s rs).1 (es, sp, r)) i h)
+      rw (after, row_in_listing rs (drop (4 * length rs) table) i h) (usable.row_usable S s rs ((grammar.table_iff_split S s rs).1 (es, sp, r)) i h)
 
 -- The premises are met: T of the paper is a valid file, its section splits, and a table of eight numbers lists the two rows.
 

@@ -118,7 +118,7 @@ header_reads_back major minor order unicode written out e l =
     let (v, _, g) = bind_ok (about input.Unicode (check (leb unicode 1) 3 8)) _ written f in
     let room : length written ≤ length out = fitted _ (length out) written g in
     rw (laid_start _ written out e room)
-    (header.header-read-back major minor order unicode (length out) written (drop (0 + length written) out) e (part_within out 0 written (omega arith) l))
+    (header.header_read_back major minor order unicode (length out) written (drop (0 + length written) out) e (part_within out 0 written (omega arith) l))
 
 -- What was read can be given to the writer, which takes bytes,
 pub header_bytes_lem :
@@ -142,7 +142,7 @@ pub header_rewritten :
     (header_written h.major h.minor h.order h.unicode (length out) ≡ ok (take h.end s))
     × (header_output h.major h.minor h.order h.unicode out ≡ laid out 0 (take h.end s))
 header_rewritten s h out e room =
-    let w = header.header-rewritten s h (length out) e room in
+    let w = header.header_rewritten s h (length out) e room in
     (w, laid_start _ (take h.end s) out w (taken s h.end (length out) room))
 
 -- Handler options.
@@ -169,7 +169,7 @@ options_read_back first second third async written out e l =
     let room : length written ≤ length out = fitted _ (length out) written f in
     let small : async ≤ 3 = options_async first second third async (length out) written e in
     rw (laid_start _ written out e room)
-    (options.options-read-back first second third async (length out) written (drop (0 + length written) out) (omega arith) e (part_within out 0 written (omega arith) l))
+    (options.options_read_back first second third async (length out) written (drop (0 + length written) out) (omega arith) e (part_within out 0 written (omega arith) l))
 
 -- Options that were read with update type 1 are written back as the same bytes.
 pub options_rewritten :
@@ -177,7 +177,7 @@ pub options_rewritten :
     (options_written (text_of s o.strings.first) (text_of s o.strings.second) (text_of s o.strings.third) o.asynchronous (length out) ≡ ok (take o.end s))
     × (options_output (text_of s o.strings.first) (text_of s o.strings.second) (text_of s o.strings.third) o.asynchronous out ≡ laid out 0 (take o.end s))
 options_rewritten s o out bytes e one room =
-    let w = options.options-rewritten s o (length out) bytes e one room in
+    let w = options.options_rewritten s o (length out) bytes e one room in
     (w, laid_start _ (take o.end s) out w (taken s o.end (length out) room))
 
 -- Schema files.
@@ -194,7 +194,7 @@ file_reads_back numbers written out table e few =
     let room : length written ≤ length out = fitted _ (length out) written g in
     let piece : take (length written) (file_output numbers out) ≡ written =
     ap (take (length written)) (laid_start _ written out e room) ∙ take-append_seam written (drop (0 + length written) out) in
-    let (t, r, n) = schema.written-reads-back numbers (length out) written e in
+    let (t, r, n) = schema.written_reads_back numbers (length out) written e in
     let listed : numbers_listed (take (length written) (file_output numbers out)) (length table) ≡ ok numbers =
     rw (piece, r, n, le-leb (length numbers) (length table) few) in
     (listed, laid_start _ numbers table listed few)
@@ -209,7 +209,7 @@ file_rewritten file ns count out bytes e room =
     let (u, _, g) = bind_ok (about input.Table (check (leb (length (numbers t)) count) 16 (length (numbers t)))) _ ns f in
     let z : numbers t ≡ ns = ok_ok g in
     let w : file_written ns (length out) ≡ ok file =
-    ap (λ (l : List ℕ). file_written l (length out)) (sym z) ∙ schema.read-writes-back file t (length out) bytes (about_ok input.Schema (file_of file) t d) room in
+    ap (λ (l : List ℕ). file_written l (length out)) (sym z) ∙ schema.read_writes_back file t (length out) bytes (about_ok input.Schema (file_of file) t d) room in
     (w, laid_start _ file out w room)
 
 -- A question in a schema that has these columns, beside an input within the limit, is a question of the columns.
@@ -275,7 +275,7 @@ module _ (file : Bytes) (number : ℕ) (cs : List Column) (entries : List ℕ) (
     wrote_original = (answered file number cs g.columns input.Values values (λ columns. write_original columns entries values (length out) place) row g.accepts).1
 
     original_fits : place + length row ≤ length out
-    original_fits = encode.original-fits cs entries values (length out) place row wrote_original
+    original_fits = encode.original_fits cs entries values (length out) place row wrote_original
 
     original_part : drop place (original_output file number entries values place out) ≡ row ++ rest
     original_part = part_is _ g.accepts original_fits
@@ -288,7 +288,7 @@ module _ (file : Bytes) (number : ℕ) (cs : List Column) (entries : List ℕ) (
     unfolding look_up_in
     original_reads_back k l =
         rw (original_part, asked file number cs g.columns input.Row (row ++ rest) (λ columns. look_up columns (row ++ rest) k) original_part_within, ← entry_given k l)
-        (encode.original-reads-back cs entries values (length out) place row wrote_original rest k l)
+        (encode.original_reads_back cs entries values (length out) place row wrote_original rest k l)
 
     -- And through the plan that the schema makes.
     pub original_reads_back_planned :
@@ -309,9 +309,9 @@ module _ (file : Bytes) (number : ℕ) (cs : List Column) (entries : List ℕ) (
           ends = rw (
             original_part,
             asked file number cs g.columns input.Row (row ++ rest) (λ columns. about input.Row (row_end columns (row ++ rest) 0)) original_part_within,
-            encode.original-ends cs entries values (length out) place row wrote_original rest,
+            encode.original_ends cs entries values (length out) place row wrote_original rest,
           );
-          reserved = rw original_part (encode.original-reserved cs entries values (length out) place row wrote_original rest);
+          reserved = rw original_part (encode.original_reserved cs entries values (length out) place row wrote_original rest);
         }
 
   module _ (g : Accepted file number cs (write_update_in file number entries values (length out) place) row place out) where
@@ -320,7 +320,7 @@ module _ (file : Bytes) (number : ℕ) (cs : List Column) (entries : List ℕ) (
     wrote_update = (answered file number cs g.columns input.Values values (λ columns. write_update columns entries values (length out) place) row g.accepts).1
 
     update_fits : place + length row ≤ length out
-    update_fits = encode.update-fits cs entries values (length out) place row wrote_update
+    update_fits = encode.update_fits cs entries values (length out) place row wrote_update
 
     update_part : drop place (update_output file number entries values place out) ≡ row ++ rest
     update_part = part_is _ g.accepts update_fits
@@ -333,7 +333,7 @@ module _ (file : Bytes) (number : ℕ) (cs : List Column) (entries : List ℕ) (
     unfolding look_update_in
     update_reads_back k l =
         rw (update_part, asked file number cs g.columns input.Update (row ++ rest) (λ columns. look_update columns (row ++ rest) k) update_part_within, ← entry_given k l)
-        (encode.update-reads-back cs entries values (length out) place row wrote_update rest k l)
+        (encode.update_reads_back cs entries values (length out) place row wrote_update rest k l)
 
     -- They end where they were written to, and their reserved bits are 0.
     pub update_written :
@@ -347,9 +347,9 @@ module _ (file : Bytes) (number : ℕ) (cs : List Column) (entries : List ℕ) (
           ends = rw (
             update_part,
             asked file number cs g.columns input.Update (row ++ rest) (λ columns. about input.Update (update_end columns (row ++ rest) 0)) update_part_within,
-            encode.update-ends cs entries values (length out) place row wrote_update rest,
+            encode.update_ends cs entries values (length out) place row wrote_update rest,
           );
-          reserved = rw update_part (encode.update-reserved cs entries values (length out) place row wrote_update rest);
+          reserved = rw update_part (encode.update_reserved cs entries values (length out) place row wrote_update rest);
         }
 
 -- Rows, back.
@@ -427,7 +427,7 @@ module _ (file : Bytes) (number : ℕ) (cs : List Column) (row : Bytes) (end : �
     module _ (out : Bytes) (place : ℕ) (room : place + end ≤ length out) where
       original_again : write_original cs (original_read file number (length cs) row) row (length out) place ≡ ok (take end row)
       original_again =
-          rw original_numbers (encode.original-rewritten cs row end (length out) place g.bytes original_ended.1 g.reserved room)
+          rw original_numbers (encode.original_rewritten cs row end (length out) place g.bytes original_ended.1 g.reserved room)
 
       -- and is written back as the same bytes.
       pub original_rewritten :
@@ -438,7 +438,7 @@ module _ (file : Bytes) (number : ℕ) (cs : List Column) (row : Bytes) (end : �
           let numbers : List ℕ = original_read file number (length cs) row in
           let e : write_original_in file number (original_read file number (length cs) row) row (length out) place ≡ ok (take end row) =
           asked file number cs g.columns input.Values row (λ columns. write_original columns numbers row (length out) place) original_ended.0 ∙ original_again in
-          (e, laid_at _ (take end row) out e place (encode.original-fits cs numbers row (length out) place (take end row) original_again))
+          (e, laid_at _ (take end row) out e place (encode.original_fits cs numbers row (length out) place (take end row) original_again))
 
   module _ (g : UpdateRow file number cs row end) where
     update_ended : (length row ≤ limit) × (update_end cs row 0 ≡ ok end)
@@ -464,7 +464,7 @@ module _ (file : Bytes) (number : ℕ) (cs : List Column) (row : Bytes) (end : �
     module _ (out : Bytes) (place : ℕ) (room : place + end ≤ length out) where
       update_again : write_update cs (update_read file number (length cs) row) row (length out) place ≡ ok (take end row)
       update_again =
-          rw update_numbers (encode.update-rewritten cs row end (length out) place g.bytes update_ended.1 g.reserved room)
+          rw update_numbers (encode.update_rewritten cs row end (length out) place g.bytes update_ended.1 g.reserved room)
 
       -- and is written back as the same bytes.
       pub update_rewritten :
@@ -475,7 +475,7 @@ module _ (file : Bytes) (number : ℕ) (cs : List Column) (row : Bytes) (end : �
           let numbers : List ℕ = update_read file number (length cs) row in
           let e : write_update_in file number (update_read file number (length cs) row) row (length out) place ≡ ok (take end row) =
           asked file number cs g.columns input.Values row (λ columns. write_update columns numbers row (length out) place) update_ended.0 ∙ update_again in
-          (e, laid_at _ (take end row) out e place (encode.update-fits cs numbers row (length out) place (take end row) update_again))
+          (e, laid_at _ (take end row) out e place (encode.update_fits cs numbers row (length out) place (take end row) update_again))
 
 -- The premises are met: these values are written, and under S the row and the update data that are written are such rows.
 
@@ -537,8 +537,8 @@ S-original-row =
       bytes = small_bytes whole refl;
       ends =
           asked S 0 S-columns S-has input.Row whole (λ columns. about input.Row (row_end columns whole 0)) (omega arith)
-          ∙ ap (about input.Row) (encode.original-ends S-columns S-entries S-values 12 1 whole S-writes.0 []);
-      reserved = encode.original-reserved S-columns S-entries S-values 12 1 whole S-writes.0 [];
+          ∙ ap (about input.Row) (encode.original_ends S-columns S-entries S-values 12 1 whole S-writes.0 []);
+      reserved = encode.original_reserved S-columns S-entries S-values 12 1 whole S-writes.0 [];
     }
 
 pub S-update-row : UpdateRow S 0 S-columns S-change 3
@@ -549,8 +549,8 @@ S-update-row =
       bytes = small_bytes S-change refl;
       ends =
           asked S 0 S-columns S-has input.Update S-change (λ columns. about input.Update (update_end columns S-change 0)) (omega arith)
-          ∙ ap (about input.Update) (encode.update-ends S-columns S-changes S-values 12 1 S-change S-writes.1 []);
-      reserved = encode.update-reserved S-columns S-changes S-values 12 1 S-change S-writes.1 [];
+          ∙ ap (about input.Update) (encode.update_ends S-columns S-changes S-values 12 1 S-change S-writes.1 []);
+      reserved = encode.update_reserved S-columns S-changes S-values 12 1 S-change S-writes.1 [];
     }
 
 -- a header of the versions 1 and 0, options of three empty strings, S by its numbers

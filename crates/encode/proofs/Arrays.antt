@@ -2,7 +2,7 @@
 -- Assumes nothing.
 use Prim.Native.Nat.{ℕ, zero, suc, ◌+◌, ◌*◌, ◌-◌, ◌≤◌, ◌<◌}
 use mathlib.Core.Path.{◌≡◌, refl, sym, ap, ◌∙◌}
-use mathlib.Core.List.{List, [], ◌∷◌, ◌++◌, map, append_nil, append_assoc}
+use mathlib.Core.List.{List, [], ◌∷◌, ◌++◌, map, append-nil, append_assoc}
 use mathlib.Core.Bool.{Bool, true, false, true≢false}
 use mathlib.Core.Logic.{⊎_elim}
 use native.Mathlib.Numerals.{add-one}
@@ -106,7 +106,7 @@ module _ (codes flags maxima numbers : List ℕ) (values : Bytes) where
 
   joined_more : {A : Type 0} (g : Column → Entry → List A) (n i : ℕ) → joined g (columns (suc n) i) (entries (suc n) i) ≡ joined g (columns n i) (entries n i) ++ g (column (i + n)) (entry (i + n))
   unfolding joined columns_from givens_from entries_of
-  joined_more g zero i = let z : i + 0 ≡ i = omega arith in rw z (append_nil (g (column i) (entry i)))
+  joined_more g zero i = let z : i + 0 ≡ i = omega arith in rw z (append-nil (g (column i) (entry i)))
   joined_more g (suc n) i =
       let z : i + suc n ≡ suc i + n = omega arith in
       joined_suc g (suc n) i ∙ ap (λ l. g (column i) (entry i) ++ l) (joined_more g n (suc i))
@@ -338,7 +338,7 @@ module _ (codes flags maxima numbers : List ℕ) (m : Map) where
             has = ap (has_bit m) (sym e) ∙ sym s ∙ u
 
             more : (values : Bytes) → bits_to values (i + 1) ≡ bits_to values i
-            more values = bits_next codes flags maxima numbers values m i ∙ rw has (append_nil (bits_to values i))
+            more values = bits_next codes flags maxima numbers values m i ∙ rw has (append-nil (bits_to values i))
 
       pub fill_end : n ≤ most_columns → n ≤ i → (values : Bytes) → Held (bits_to values n) bits count
       fill_end o l values =

@@ -2,7 +2,7 @@
 -- Assumes nothing.
 use Prim.Native.Nat.{ℕ, ◌+◌, ◌-◌, ◌%◌, ◌^◌, ◌≤◌, ◌<◌}
 use mathlib.Core.Path.{◌≡◌, refl, sym, ap, subst, ◌∙◌}
-use mathlib.Core.List.{[], ◌∷◌, ◌++◌, append_nil, append_assoc}
+use mathlib.Core.List.{[], ◌∷◌, ◌++◌, append-nil, append_assoc}
 use mathlib.Core.Bool.{Bool, true, false, true≢false}
 use native.Mathlib.Omega.{arith}
 use lib.ListN.{length, take, drop, length-append, length-take, length-drop, take-append-drop, drop_of_length-le}
@@ -143,7 +143,7 @@ says_none values kind start end c h = rw (ne_eqb kind 1 h) (go (eqb kind 0))
 pub put_none_at : (out : Bytes) (at : ℕ) → at ≤ length out → put out at [] ≡ out
 put_none_at out at h =
     let z : at + 0 ≡ at = omega arith in
-    put_fits out at [] (omega (arith, h)) ∙ ap (λ (n : ℕ). take at out ++ [] ++ drop n out) z ∙ ap (λ (l : Bytes). l ++ drop at out) (append_nil (take at out)) ∙ take-append-drop at out
+    put_fits out at [] (omega (arith, h)) ∙ ap (λ (n : ℕ). take at out ++ [] ++ drop n out) z ∙ ap (λ (l : Bytes). l ++ drop at out) (append-nil (take at out)) ∙ take-append-drop at out
 
 pub put_none : (out : Bytes) → put out 0 [] ≡ out
 put_none out = put_none_at out 0 (omega arith)
@@ -160,7 +160,7 @@ put_lent out at x h =
     let d : drop (length out - at) rest ≡ [] = drop_of_length-le rest m in
     ap (λ (l : Bytes). take at out ++ (put l 0 x ++ drop (length out - at) rest)) t
     ∙ ap (λ (l : Bytes). take at out ++ (put rest 0 x ++ l)) d
-    ∙ ap (λ (l : Bytes). take at out ++ l) (append_nil (put rest 0 x))
+    ∙ ap (λ (l : Bytes). take at out ++ l) (append-nil (put rest 0 x))
     ∙ go (leb (at + length x) (length out)) refl
   where
     go : (b : Bool) → leb (at + length x) (length out) ≡ b → take at out ++ put (drop at out) 0 x ≡ put out at x

@@ -126,6 +126,8 @@ presence_said :
     bit_set map (b + i) ≡ get_or (presence_bits cs es) i false
 unfolding presence_bits marks
 presence_said map b [] [] each_end i h = absurd (omega arith)
+presence_said map b [] (e ∷ es) x i h = elim x [ ]
+presence_said map b (c ∷ cs) [] x i h = elim x [ ]
 presence_said map b (c ∷ cs) (e ∷ es) (each p r) i h = go (is_nullable c) refl (presence_said map (b + one (is_nullable c)) cs es r) i h
   where
     go :

@@ -38,20 +38,20 @@ module _ (cs : List Column) (numbers : List ℕ) (values : Bytes) (size place : 
     original_made =
         let es : List Entry = entries_in (length cs) numbers values in
         let (u, s, e) = writing_ok in_original original_bytes cs numbers values size place row h in
-        subst (λ (x : Bytes). original.Made cs es (x ++ r) (length x)) e (original.written-made cs es (entries_length values (length cs) 0 numbers) r u s)
+        subst (λ (x : Bytes). original.Made cs es (x ++ r) (length x)) e (original.written_made cs es (entries_length values (length cs) 0 numbers) r u s)
 
     pub original_reads_back :
         (k : ℕ) → k < length cs → Says (row ++ r) (get_or cs k no_column) (get_or (entries_in (length cs) numbers values) k null) (look_up cs (row ++ r) k)
-    original_reads_back = original.made-says original_made
+    original_reads_back = original.made_says original_made
 
     pub original_ends : row_end cs (row ++ r) 0 ≡ ok (length row)
-    original_ends = original.made-end original_made
+    original_ends = original.made_end original_made
 
     pub original_reserved : ReservedZero cs (row ++ r)
     unfolding write_original
     original_reserved =
         let (u, s, e) = writing_ok in_original original_bytes cs numbers values size place row h in
-        subst (λ (x : Bytes). ReservedZero cs (x ++ r)) e (original.written-reserved cs _ (entries_length values (length cs) 0 numbers) r)
+        subst (λ (x : Bytes). ReservedZero cs (x ++ r)) e (original.written_reserved cs _ (entries_length values (length cs) 0 numbers) r)
 
   module _ (h : write_update cs numbers values size place ≡ ok row) (r : Bytes) where
     update_made : update.Made cs (entries_in (length cs) numbers values) (row ++ r) (length row)
@@ -59,20 +59,20 @@ module _ (cs : List Column) (numbers : List ℕ) (values : Bytes) (size place : 
     update_made =
         let es : List Entry = entries_in (length cs) numbers values in
         let (u, s, e) = writing_ok in_update update_data cs numbers values size place row h in
-        subst (λ (x : Bytes). update.Made cs es (x ++ r) (length x)) e (update.written-made cs es (entries_length values (length cs) 0 numbers) r u s)
+        subst (λ (x : Bytes). update.Made cs es (x ++ r) (length x)) e (update.written_made cs es (entries_length values (length cs) 0 numbers) r u s)
 
     pub update_reads_back :
         (k : ℕ) → k < length cs → SaysUpdate (row ++ r) (get_or cs k no_column) (get_or (entries_in (length cs) numbers values) k null) (look_update cs (row ++ r) k)
-    update_reads_back = update.made-says update_made
+    update_reads_back = update.made_says update_made
 
     pub update_ends : update_end cs (row ++ r) 0 ≡ ok (length row)
-    update_ends = update.made-end update_made
+    update_ends = update.made_end update_made
 
     pub update_reserved : UpdateReservedZero cs (row ++ r)
     unfolding write_update
     update_reserved =
         let (u, s, e) = writing_ok in_update update_data cs numbers values size place row h in
-        subst (λ (x : Bytes). UpdateReservedZero cs (x ++ r)) e (update.written-reserved cs _ (entries_length values (length cs) 0 numbers) r)
+        subst (λ (x : Bytes). UpdateReservedZero cs (x ++ r)) e (update.written_reserved cs _ (entries_length values (length cs) 0 numbers) r)
 
 -- The numbers of an answer that says an entry give this entry.
 
@@ -109,14 +109,14 @@ module _ (cs : List Column) (row : Bytes) (end size place : ℕ) (bytes : AreByt
       row_end cs row 0 ≡ ok end → ReservedZero cs row → place + end ≤ size → write_original cs (read_original cs row) row size place ≡ ok (take end row)
   unfolding write_original read_original
   original_rewritten h z f =
-      let (es, d) = original.accepted-made cs row end bytes h in
-      rewrites in_original original_bytes cs es (λ (k : ℕ). numbers_of (look_up cs row k)) row size place end (original.made-length d)
-      (λ k. numbers_three (look_up cs row k)) (λ k l. says_gives (original.made-says d k l)) (original.made-stands d) (original.made_bytes d bytes z) d.fields.inside f
+      let (es, d) = original.accepted_made cs row end bytes h in
+      rewrites in_original original_bytes cs es (λ (k : ℕ). numbers_of (look_up cs row k)) row size place end (original.made_length d)
+      (λ k. numbers_three (look_up cs row k)) (λ k l. says_gives (original.made_says d k l)) (original.made_stands d) (original.made_bytes d bytes z) d.fields.inside f
 
   pub update_rewritten :
       update_end cs row 0 ≡ ok end → UpdateReservedZero cs row → place + end ≤ size → write_update cs (read_update cs row) row size place ≡ ok (take end row)
   unfolding write_update read_update
   update_rewritten h z f =
-      let (es, d) = update.accepted-made cs row end bytes h in
-      rewrites in_update update_data cs es (λ (k : ℕ). numbers_of_update (look_update cs row k)) row size place end (update.made-length d)
-      (λ k. update_three (look_update cs row k)) (λ k l. update_gives (update.made-says d k l)) (update.made-stands d) (update.made_bytes d bytes z) d.fields.inside f
+      let (es, d) = update.accepted_made cs row end bytes h in
+      rewrites in_update update_data cs es (λ (k : ℕ). numbers_of_update (look_update cs row k)) row size place end (update.made_length d)
+      (λ k. update_three (look_update cs row k)) (λ k l. update_gives (update.made_says d k l)) (update.made_stands d) (update.made_bytes d bytes z) d.fields.inside f

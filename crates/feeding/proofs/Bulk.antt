@@ -1,7 +1,7 @@
 -- Many bytes at once: a piece, the bytes of a field, and row data that lie whole in a fragment.
 -- Assumes nothing.
 use Prim.Native.Nat.{ℕ, zero, suc, ◌+◌, ◌-◌, ◌≤◌, ◌<◌}
-use mathlib.Core.List.{List, [], ◌∷◌, ◌++◌, append_assoc, append_nil}
+use mathlib.Core.List.{List, [], ◌∷◌, ◌++◌, append_assoc, append-nil}
 use mathlib.Core.Bool.{Bool, true, false}
 use mathlib.Core.Option.{Option, some}
 use mathlib.Core.Path.{◌≡◌, refl, sym, ap, ◌∙◌}
@@ -38,7 +38,7 @@ module _ (S : List Schema) where
   unfolding feed byte
   keep_some n start more held [] g h =
       let z : more ≡ more - 0 = omega arith in
-      ap (λ (l : Bytes). keep n start l more g) (sym (append_nil held)) ∙ ap (λ (m : ℕ). keep n start (held ++ []) m g) z
+      ap (λ (l : Bytes). keep n start l more g) (sym (append-nil held)) ∙ ap (λ (m : ℕ). keep n start (held ++ []) m g) z
   keep_some n start zero held (b ∷ x) g h = absurd (omega arith)
   keep_some n start (suc more) held (b ∷ x) g h =
       let z : more - length x ≡ suc more - length (b ∷ x) = omega arith in

@@ -1,7 +1,7 @@
 -- However the bytes of a section are cut, the reader that is fed answers what is written over the bytes joined.
 -- Assumes nothing.
 use Prim.Native.Nat.{ℕ, ◌≤◌, ◌<◌}
-use mathlib.Core.List.{List, [], ◌∷◌, ◌++◌, append_assoc, append_nil}
+use mathlib.Core.List.{List, [], ◌∷◌, ◌++◌, append_assoc, append-nil}
 use mathlib.Core.Bool.{Bool, true, false}
 use mathlib.Core.Path.{◌≡◌, refl, sym, ap, ◌∙◌}
 use native.Mathlib.Omega.{arith}
@@ -274,7 +274,7 @@ fed_calls :
     (file : Bytes) (S : List Schema) → file_schemas file ≡ ok S → (u : Bytes) (cs : List Call) →
     tell (calls file (opened (take_in S start u)) cs) ≡ pick (any_close cs) (closed_in S (u ++ joined cs)) (open_in S (u ++ joined cs))
 unfolding calls call any_close joined
-fed_calls file S e u [] = told_open S u ∙ ap (open_in S) (sym (append_nil u))
+fed_calls file S e u [] = told_open S u ∙ ap (open_in S) (sym (append-nil u))
 fed_calls file S e u (fragment f ∷ cs) =
     ap (λ (r : Read (List Schema)). tell (calls file (with_file r (take_in S start u) (fragment f)) cs)) e
     ∙ ap (λ (st : State). tell (calls file (standing st) cs)) (sym (take_in_append S start u f))
@@ -286,7 +286,7 @@ fed_calls file S e u (close ∷ cs) =
     ∙ ap tell (ended_stays file (ending (closed (take_in S start u))) cs (ending_ended (closed (take_in S start u))))
     ∙ tell_ending (closed (take_in S start u))
     ∙ told_closed S u
-    ∙ ap (closed_in S) (sym (append_nil u))
+    ∙ ap (closed_in S) (sym (append-nil u))
 
 file_refused :
     (file : Bytes) (code offset : ℕ) (name : Input) → file_schemas file ≡ bad code offset name → (c : Call) (cs : List Call) →
@@ -351,4 +351,4 @@ pub whole_and_close :
     (file s : Bytes) → length s ≤ limit → tell (calls file first (fragment s ∷ close ∷ [])) ≡ said (row_count (rows_checked file s))
 unfolding answer_to any_close joined
 whole_and_close file s h =
-    fed_answers file (fragment s) (close ∷ []) ∙ ap (answer_closed file) (append_nil s) ∙ closed_is_whole file s h
+    fed_answers file (fragment s) (close ∷ []) ∙ ap (answer_closed file) (append-nil s) ∙ closed_is_whole file s h

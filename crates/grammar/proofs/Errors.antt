@@ -44,7 +44,7 @@ known_some id (known_after k) e h = let z : ◌≡◌ {A = ℕ} 0 1 = cc in omeg
 
 module _ (S : List Schema) (s : Bytes) where
   of_whole : (at n : ℕ) → OfError (Reason S s) (whole s at n)
-  of_whole at n = of_other (λ _ _ h. in_row h) (row.of-whole s at n)
+  of_whole at n = of_other (λ _ _ h. in_row h) (row.of_whole s at n)
 
   of_original : (columns : List Column) (at : ℕ) → OfError (Reason S s) (row_end columns s at)
   of_original columns at = of_other (λ _ _ h. in_row h) (of_row s columns at)

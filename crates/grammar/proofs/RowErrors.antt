@@ -29,11 +29,6 @@ pub data OfError {A : Type 0} (P : ℕ → ℕ → Type 0) : Read A → Type 0 w
   no_error : {a : A} → OfError P (ok a)
   an_error : {code offset : ℕ} → P code offset → OfError P (bad code offset Single)
 
-pub of_bind :
-    {A B : Type 0} {P : ℕ → ℕ → Type 0} (r : Read A) (g : A → Read B) → OfError P r → ((a : A) → r ≡ ok a → OfError P (g a)) → OfError P (r >>= g)
-of_bind (ok a) g h k = k a refl
-of_bind (bad c p Single) g (an_error h) k = an_error h
-
 pub of_check : {P : ℕ → ℕ → Type 0} (t : Bool) (c p : ℕ) → (t ≡ false → P c p) → OfError P (check t c p)
 unfolding check
 of_check true c p h = no_error
@@ -49,6 +44,13 @@ of_told {c = c} {p = p} (an_error {code = d} {offset = q} h) e =
     let u : d ≡ c = cc in
     let v : q ≡ p = cc in
     (rw (← u, ← v) h, (cc))
+
+pub of_bind :
+    {A B : Type 0} {P : ℕ → ℕ → Type 0} (r : Read A) (g : A → Read B) → OfError P r → ((a : A) → r ≡ ok a → OfError P (g a)) → OfError P (r >>= g)
+of_bind (ok a) g h k = k a refl
+of_bind (bad c p i) g h k =
+    let (x, e) = of_told h refl in
+    rw e (an_error x)
 
 -- The errors in an input of n bytes: code and offset.
 pub data RowErrorAt (n : ℕ) : ℕ → ℕ → Type 0 where

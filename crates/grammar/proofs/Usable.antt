@@ -3,7 +3,7 @@
 -- Assumes nothing.
 use Prim.Native.Nat.{ℕ, zero, suc, ◌+◌, ◌≤◌, ◌<◌}
 use mathlib.Core.Path.{◌≡◌, refl, sym, ◌∙◌}
-use mathlib.Core.List.{List, [], ◌∷◌, ◌++◌, append_nil}
+use mathlib.Core.List.{List, [], ◌∷◌, ◌++◌, append-nil}
 use mathlib.Core.Option.{some}
 use native.Mathlib.Omega.{arith}
 use lib.ListN.{length, drop, get_or, length-append}
@@ -66,7 +66,7 @@ piece_agrees {s} {a} {b} {x} p =
 
 -- bytes are a piece of themselves
 whole_piece : (x : Bytes) → Piece x 0 (length x) x
-whole_piece x = record { ends = omega arith; inside = omega arith; splits = rw drop-length (sym (append_nil x)) }
+whole_piece x = record { ends = omega arith; inside = omega arith; splits = rw drop-length (sym (append-nil x)) }
 
 pub row_at : {columns : List Column} {s : Bytes} {at e : ℕ} {x : Bytes} → Original columns x → Piece s at e x → RowAt columns s at
 row_at {columns} {s} {at} {e} {x} O p =

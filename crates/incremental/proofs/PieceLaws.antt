@@ -2,7 +2,7 @@
 -- Assumes nothing.
 use Prim.Native.Nat.{ℕ, zero, suc, ◌+◌, ◌*◌, ◌-◌, ◌≤◌, ◌<◌, min}
 use mathlib.Core.Path.{◌≡◌, refl, sym, ap, ◌∙◌}
-use mathlib.Core.List.{List, [], ◌∷◌, ◌++◌, map, append_assoc, append_nil}
+use mathlib.Core.List.{List, [], ◌∷◌, ◌++◌, map, append_assoc, append-nil}
 use mathlib.Core.Bool.{Bool, true, false}
 use native.Mathlib.Omega.{arith}
 use native.Mathlib.Numerals.{add-one}
@@ -408,7 +408,7 @@ pub record Keeping (bytes : Bytes) (filled : ℕ) (s : Bytes) (at n : ℕ) (next
 pub keeping_start : (bytes : Bytes) (filled : ℕ) (s : Bytes) (at n : ℕ) → Keeping bytes filled s at n bytes 0
 keeping_start bytes filled s at n =
     let z : filled + 0 ≡ filled = omega arith in
-    record { few = omega arith; kept = rw z (sym (append_nil (take filled bytes))); long = refl }
+    record { few = omega arith; kept = rw z (sym (append-nil (take filled bytes))); long = refl }
 
 pub keeping_next :
     {bytes : Bytes} {filled : ℕ} {s : Bytes} {at n : ℕ} {next : Bytes} {i : ℕ} → Keeping bytes filled s at n next i → i < n → at + i < length s → filled + i < length bytes →

@@ -2,7 +2,7 @@
 -- Assumes nothing.
 use Prim.Native.Nat.{ℕ, zero, suc, ◌+◌, ◌-◌, ◌*◌, ◌/◌, ◌^◌, ◌<◌, ◌≤◌}
 use mathlib.Core.Path.{◌≡◌, refl, sym, ap, ◌∙◌, subst}
-use mathlib.Core.List.{List, [], ◌∷◌, ◌++◌, append_nil}
+use mathlib.Core.List.{List, [], ◌∷◌, ◌++◌, append-nil}
 use mathlib.Core.Bool.{Bool, true, false}
 use native.Mathlib.Nat.{pow-le-pow_right, zero-lt-suc}
 use native.Mathlib.Numerals.{add-one}
@@ -163,7 +163,7 @@ lines_start text table at h = record { piece = []; is = no_lines; adds = record 
         let z : p + 0 ≡ p = omega arith in
         put_fits out p [] (omega (arith, h))
         ∙ ap (λ (n : ℕ). take p out ++ [] ++ drop n out) z
-        ∙ ap (λ (l : Bytes). l ++ drop p out) (append_nil (take p out))
+        ∙ ap (λ (l : Bytes). l ++ drop p out) (append-nil (take p out))
         ∙ take-append-drop p out
 
 pub lines_next : {text laid exit : Bytes} {at p end : ℕ} (table : List ℕ) (i : ℕ) → AddsThe (RowLines (rows_of i table)) (84 * i) text laid at p →

@@ -1,7 +1,7 @@
 -- A plan that is filled along the columns.
 -- Assumes nothing.
 use Prim.Native.Nat.{ℕ, ◌+◌, ◌*◌, ◌-◌, ◌/◌, ◌%◌, ◌^◌, ◌≤◌, ◌<◌}
-use mathlib.Core.List.{List, [], ◌∷◌, ◌++◌, map, append_nil, append_assoc}
+use mathlib.Core.List.{List, [], ◌∷◌, ◌++◌, map, append-nil, append_assoc}
 use mathlib.Core.Bool.{Bool, true, false, true≢false}
 use mathlib.Core.Path.{◌≡◌, refl, sym, ap, ◌∙◌}
 use native.Mathlib.Nat.{add-zero}
@@ -18,7 +18,7 @@ use Rattle.column.specs.Columns.{width, is_chapter, is_nullable, is_stop}
 use Rattle.column.specs.Layout.{padded}
 use Rattle.column.specs.Packed.{packed_at, packed_from}
 use Rattle.column.specs.Stops.{stop_of, stop_word}
-use Rattle.column.proofs.Stops.{width_few, stop_chapter, no_stop}
+use Rattle.column.proofs.Stops.{width_few, stop_chapter, no_stop_lem}
 use Rattle.walk.specs.Presence.{no_column, one, presence_bytes, marks}
 use Rattle.walk.specs.Leaps.{stops_from}
 use Rattle.walk.proofs.Slots.{length_from, column_from}
@@ -114,7 +114,7 @@ module _
     where
       go : (t : Bool) → is_chapter c ≡ t → pick t (pick (is_nullable c) x 0) 0 ≡ pick (is_nullable c) x 0
       go true q = refl
-      go false q = sym (rw (no_stop c s q).0)
+      go false q = sym (rw (no_stop_lem c s q).0)
 
   first_now : pick (eqb stops 0) (pick (is_stop c) i (first_stop (i + 1) (drop (i + 1) cs))) first ≡ first_stop 0 cs
   unfolding first_stop
@@ -188,8 +188,8 @@ pub fill_end :
 unfolding plan_of counted numbers_from stops_from marks chapter_mask first_stop
 fill_end cs {numbers} {gap} {bit} {stops} {first} {mask} {i} {map} {n} f l y e =
     let none : drop i cs ≡ [] = drop_of_length-le cs l in
-    let columns : f.columns ≡ numbers_from (presence_bytes cs) 0 (marks 0 cs) = sym (append_nil f.columns) ∙ sym (rw none) ∙ f.columns_left in
-    let words : f.words ≡ Listed cs = sym (append_nil f.words) ∙ sym (rw none) ∙ f.words_left in
+    let columns : f.columns ≡ numbers_from (presence_bytes cs) 0 (marks 0 cs) = sym (append-nil f.columns) ∙ sym (rw none) ∙ f.columns_left in
+    let words : f.words ≡ Listed cs = sym (append-nil f.words) ∙ sym (rw none) ∙ f.words_left in
     let chapters : mask ≡ chapter_mask (marks 0 cs) = sym (add-zero mask) ∙ sym (rw none) ∙ f.mask_left in
     let start : first ≡ first_stop 0 cs = go (eqb stops 0) refl (sym (rw none) ∙ f.first_left) in
     let all : set (set (set numbers 128 (n + 256 * first)) 129 map) 130 mask ≡ laid f.columns f.words (n + 256 * first) map mask =

@@ -2,7 +2,7 @@
 -- Assumes nothing.
 use Prim.Native.Nat.{ℕ, suc, ◌+◌, ◌*◌, ◌-◌, ◌≤◌}
 use mathlib.Core.Path.{◌≡◌, refl, sym, ap, ◌∙◌}
-use mathlib.Core.List.{List, [], ◌∷◌, ◌++◌, append_assoc, append_nil}
+use mathlib.Core.List.{List, [], ◌∷◌, ◌++◌, append_assoc, append-nil}
 use mathlib.Core.Bool.{Bool, true, false}
 use native.Mathlib.Omega.{arith}
 use lib.ListN.{length, take, drop, set, length-append, take-append-drop}
@@ -72,7 +72,7 @@ laid_piece i [] table h =
     sym (put_fits table (4 * i) [] (omega arith) ∙ rw z (go table (4 * i)))
   where
     go : (t : List ℕ) (m : ℕ) → take m t ++ [] ++ drop m t ≡ t
-    go t m = rw append_nil (take-append-drop m t)
+    go t m = rw append-nil (take-append-drop m t)
 laid_piece i (r ∷ rs) table h =
     let n : length (put table (4 * i) (row_numbers r)) ≡ length table = length_put table (4 * i) (row_numbers r) in
     let z : 4 * (i + 1) ≡ 4 * i + length (row_numbers r) = omega arith in

@@ -2,7 +2,7 @@
 -- Assumes nothing.
 use Prim.Native.Nat.{ℕ, zero, suc, ◌+◌, ◌*◌, ◌-◌, ◌<◌, ◌≤◌}
 use mathlib.Core.Path.{◌≡◌, refl, sym, ap, ◌∙◌}
-use mathlib.Core.List.{List, [], ◌∷◌, ◌++◌, append_assoc, append_nil}
+use mathlib.Core.List.{List, [], ◌∷◌, ◌++◌, append_assoc, append-nil}
 use mathlib.Core.Bool.{Bool, true, false}
 use mathlib.Core.Option.{some}
 use native.Mathlib.Omega.{arith}
@@ -70,7 +70,7 @@ at_start S s table =
     }
 
 flush_more : (p : Pending) (l rs : List Row) → l ++ flush p rs ≡ (l ++ flush p []) ++ rs
-flush_more nothing l rs = ap (λ (x : List Row). x ++ rs) (sym (append_nil l))
+flush_more nothing l rs = ap (λ (x : List Row). x ++ rs) (sym (append-nil l))
 flush_more (child_row_lem id start) l rs = sym (append_assoc l (entry 2 id start 0 ∷ []) rs)
 
 -- what is pending before an 8A or 8C
@@ -132,10 +132,10 @@ module _ (S : List Schema) (s : Bytes) (entry₀ table : List ℕ) (at rows : �
               ∙ rows_alike r (λ rs. a.listed ++ close kind update p rs) (λ rs. (a.listed ++ last) ++ rs)
               (λ rs. ap (λ (x : Pending). a.listed ++ close kind update x rs) c₀ ∙ sym (append_assoc a.listed last rs))
               ∙ ap (λ (x : Read (List Row)). x >>= λ rs. ok ((a.listed ++ last) ++ rs)) q;
-          count = rw (append_nil (a.listed ++ last)) (omega arith);
+          count = rw (append-nil (a.listed ++ last)) (omega arith);
           few = omega (arith, a.few);
           holds =
-              rw (append_nil (a.listed ++ last))
+              rw (append-nil (a.listed ++ last))
               (ap (λ (x : List ℕ). put x (4 * (rows - 1)) (row_numbers (entry kind id origin update))) h
               ∙ laid_again a.listed (entry 2 id origin 0) (entry kind id origin update) entry₀ (rows - 1) z);
         },
@@ -240,9 +240,9 @@ module _ (S : List Schema) (s : Bytes) (entry₀ table : List ℕ) (at rows : �
             ∙ bind_bind (rows_from S s f nothing e) (λ rs. ok (flush p (r ∷ rs))) (λ rs. ok (a.listed ++ rs))
             ∙ rows_alike (rows_from S s f nothing e) (λ rs. a.listed ++ flush p (r ∷ rs)) (λ rs. (shut ++ (r ∷ [])) ++ rs)
             (λ rs. flush_more p a.listed (r ∷ rs) ∙ sym (append_assoc shut (r ∷ []) rs));
-        count = rw (append_nil (shut ++ (r ∷ []))) (omega arith);
+        count = rw (append-nil (shut ++ (r ∷ []))) (omega arith);
         few = omega (arith, a.few);
-        holds = rw (append_nil (shut ++ (r ∷ []))) (laid_row r);
+        holds = rw (append-nil (shut ++ (r ∷ []))) (laid_row r);
       }
 
   child_ended : (k id start e f : ℕ) → at < start → length s ≤ f + at →

@@ -3,7 +3,7 @@
 use Prim.Native.Nat.{ℕ, zero, suc, ◌+◌, ◌*◌, ◌%◌, ◌≤◌, ◌<◌}
 use mathlib.Core.Path.{◌≡◌, refl, sym, ap, ◌∙◌}
 use mathlib.Core.Logic.{◌⊎◌, inl, inr}
-use mathlib.Core.List.{List, [], ◌∷◌, ◌++◌, append_nil}
+use mathlib.Core.List.{List, [], ◌∷◌, ◌++◌, append-nil}
 use mathlib.Core.Bool.{Bool, true, false}
 use native.Mathlib.Numerals.{add-one}
 use native.Mathlib.Omega.{arith}
@@ -228,7 +228,7 @@ module _
       unfolding stops_from tail_from
       grow_plain s {w} b =
           let old : List Stop = stops_from is_nullable is_stop 0 ms in
-          let none : stops_from is_nullable is_stop 0 (take (i + 1) (marks 0 cs)) ≡ old = stops_more ∙ rw s (append_nil old) in
+          let none : stops_from is_nullable is_stop 0 (take (i + 1) (marks 0 cs)) ≡ old = stops_more ∙ rw s (append-nil old) in
           record {
             below = omega arith;
             said = rw none grown.said;

@@ -22,7 +22,7 @@ use Rattle.column.specs.Columns.{width, is_variable, is_chapter, is_nullable, is
 use Rattle.column.specs.Fields.{field, bytes_at, variable_at, field_at}
 use Rattle.column.specs.Stops.{Stop, stop_of, prefix_of, there, length_at, span_at, span_error, no_stop}
 use Rattle.column.proofs.Laws.{length_rule, length_none, bytes_short, bytes_fit, variable_short, variable_long, variable_bytes, field_variable, field_fixed, field_past}
-use Rattle.column.proofs.Stops.{chapter_bare, stop_chapter, no_stop}
+use Rattle.column.proofs.Stops.{chapter_bare, stop_chapter, no_stop_lem}
 use Rattle.walk.specs.Presence.{no_column, one, presence_bytes, Mark, no_mark, marks, present, count}
 use Rattle.walk.specs.Rows.{Place, place, past, step, walk, arrive, opened, walked, row_end}
 use Rattle.walk.specs.Updates.{numbered, update_bytes, carried, carried_in, update_opened, update_walked, update_end}
@@ -294,7 +294,7 @@ steady_row row m h = go (is_chapter m.column) refl
         let z : 0 * width m.column ≡ width m.column = omega (arith, w) in
         (v, rw (present_chapter row m.column m.bit e) z)
     go false e =
-        let (n, v) = no_stop m.column h e in
+        let (n, v) = no_stop_lem m.column h e in
         let z : 1 * width m.column ≡ width m.column = omega arith in
         (v, rw (present_always row m.column m.bit e n) z)
 

@@ -40,4 +40,4 @@ returns c =
       fitting_fits (header_bytes c.args.major c.args.minor c.args.order c.args.unicode) (length c.args.out.now) c.if-out-lt9.false,
     ))
     refl
-    (c.copy_into-2.ensures ∙ put_next c.args.out.now c.copy_into.new.0 signature (c.args.major ∷ c.args.minor ∷ c.args.order ∷ c.args.unicode ∷ []) 5 c.copy_into.ensures refl c.if-out-lt9.false)
+    (c.copy_into-2.ensures ∙ put_next c.args.out.now c.copy_into.new.out signature (c.args.major ∷ c.args.minor ∷ c.args.order ∷ c.args.unicode ∷ []) 5 c.copy_into.ensures refl c.if-out-lt9.false)

@@ -24,8 +24,8 @@ returns c =
     let o : Bytes = c.args.out.now in
     let room : 20 ≤ length o = c.if-out-lt20.false in
     let w2 : Bytes = token ++ int_bytes 2 c.args.size in
-    let e2 : c.copy_into-2.new.0 ≡ put o 0 w2 =
-    c.copy_into-2.ensures ∙ put_next o c.copy_into.new.0 token (int_bytes 2 c.args.size) 1 c.copy_into.ensures refl (omega arith) in
-    let e3 : c.copy_into-3.new.0 ≡ put o 0 (w2 ++ guid) =
-    c.copy_into-3.ensures ∙ put_next o c.copy_into-2.new.0 w2 guid 3 e2 refl (omega arith) in
-    c.copy_into-4.ensures ∙ put_next o c.copy_into-3.new.0 (w2 ++ guid) (0x01 ∷ []) 19 e3 refl room
+    let e2 : c.copy_into-2.new.out ≡ put o 0 w2 =
+    c.copy_into-2.ensures ∙ put_next o c.copy_into.new.out token (int_bytes 2 c.args.size) 1 c.copy_into.ensures refl (omega arith) in
+    let e3 : c.copy_into-3.new.out ≡ put o 0 (w2 ++ guid) =
+    c.copy_into-3.ensures ∙ put_next o c.copy_into-2.new.out w2 guid 3 e2 refl (omega arith) in
+    c.copy_into-4.ensures ∙ put_next o c.copy_into-3.new.out (w2 ++ guid) (0x01 ∷ []) 19 e3 refl room
