@@ -39,10 +39,10 @@ tally n r = r >>= λ es. ok (n + length (rows 0 es))
 length_rows : (a b : ℕ) (es : List Element) → length (rows a es) ≡ length (rows b es)
 unfolding rows
 length_rows a b [] = refl
-length_rows a b (parent_element row ∷ es) = ap suc (length_rows _ _ es)
-length_rows a b (child_element id row ∷ es) = ap suc (length_rows _ _ es)
-length_rows a b (change_element id row ∷ es) = length_rows _ _ es
-length_rows a b (delete_element id ∷ es) = length_rows _ _ es
+length_rows a b (parent_element row ∷ es) = ap suc (length_rows (a + 1 + length row) (b + 1 + length row) es)
+length_rows a b (child_element id row ∷ es) = ap suc (length_rows (a + 5 + length row) (b + 5 + length row) es)
+length_rows a b (change_element id row ∷ es) = length_rows (a + 5 + length row) (b + 5 + length row) es
+length_rows a b (delete_element id ∷ es) = length_rows (a + 5) (b + 5) es
 
 -- an element before others adds so many rows
 tally_cons :

@@ -82,7 +82,7 @@ module _ (S : List Schema) (s : Bytes) where
   deleted_here before at h = deleted_of before at (head_told S s before at _ h)
 
   -- Elements go forward, and stay inside.
-  pub passes_forward : {at rows to : ℕ} {before behind : Before} → Passes S s at before rows to behind → at ≤ to
+  pub passes_forward : {before : Before} {at rows to : ℕ} {behind : Before} → Passes S s at before rows to behind → at ≤ to
   passes_forward passes.none = omega arith
   passes_forward {before = before} (passes.next {to = to} {behind = b} p h q) = omega (arith, passes_forward p, (element_here b to h q).further)
   passes_forward (passes.deleted p h) = omega (arith, passes_forward p)
@@ -105,14 +105,14 @@ module _ (S : List Schema) (s : Bytes) where
       {at rows to : ℕ} {before behind : Before} → Passes S s at before rows to behind → to ≤ length s → (d n : ℕ) →
       feed S (M.between n (d + at) before) (cut s at (to - at)) ≡ M.between (n + rows) (d + to) behind
   unfolding feed
-  passes_fed {at} {before = before} passes.none i d n =
+  passes_fed {at = at} {before = before} passes.none i d n =
       let z : at - at ≡ 0 = omega arith in
       let y : n ≡ n + 0 = omega arith in
       ap (λ (x : ℕ). feed S (M.between n (d + at) before) (cut s at x)) z ∙ ap (λ (x : ℕ). M.between x (d + at) before) y
-  passes_fed {at} {before = before} (passes.next {rows = m} {to = to} {behind = b} p h q) i d n =
+  passes_fed {at = at} {before = before} (passes.next {rows = m} {to = to} {behind = b} p h q) i d n =
       let x = element_here b to h q in
       element_fed before (passes_forward p) x d n m (passes_fed p (omega (arith, x.further)) d n)
-  passes_fed {at} {before = before} (passes.deleted {rows = m} {to = to} {behind = b} p h) i d n =
+  passes_fed {at = at} {before = before} (passes.deleted {rows = m} {to = to} {behind = b} p h) i d n =
       let x = deleted_here b to h in
       let z : n + (m + 0) ≡ n + m = omega arith in
       element_fed before (passes_forward p) x d n m (passes_fed p (omega (arith, x.further)) d n) ∙ ap (λ (y : ℕ). M.between y (d + (to + 5)) other) z

@@ -23,7 +23,7 @@ use Rattle.feeding.specs.Machine.{Kind, parent_row, child_row, change_row, child
 use Rattle.feeding.specs.Feeding.{take_in, opened, completed, failed, standing, ending, file_schemas, with_file, call}
 use Rattle.feeding.specs.Feeding.{Reader as Standing}
 use Rattle.feeding.proofs.Fits.{Fits, fits_taken}
-use Rattle.feeding.proofs.Codes.{Code, Coded, CodedState, coded-taken, coded-closed, coded-file}
+use Rattle.feeding.proofs.Codes.{Code, Coded, CodedState, coded_taken, coded_closed, coded_file}
 use Rattle.incremental.specs.Record.{before_by, paired_of, paired_id, kind_by, kind_of, id_of, input_in, stage_in, state_in, fits, known_code, reader_in, sixteen, state_of, record_of}
 
 -- A state that is open: its numbers fit a record, and it has not stopped.

@@ -5,4 +5,3 @@ pub mod Jump
 pub mod Answers
 pub mod Inside
 pub mod Handled
-pub mod Held

@@ -1,5 +1,5 @@
-// Row handles: a row that was opened once by a plan, kept on the caller's bytes, and look-up through it. The checker covers no function
-// over such a struct, so these are thin and proved by hand; `start_of`, `look_up` and `field_part` of module `look` do the work.
+// Row handles: a row that was opened once by a plan, kept on the caller's bytes, and look-up through it. `start_of`, `look_up` and
+// `field_part` of module `look` do the work.
 ghost use Rattle.std.specs.Prelude.{◌≡◌};
 ghost use Rattle.walk.specs.Parts.{part_of};
 ghost use Rattle.row.specs.Told.{told_look_up};

@@ -1,6 +1,6 @@
 -- There and back: what is written reads back as the numbers given, and the numbers that were read are written back.
 -- Assumes nothing.
-use Prim.Native.Nat.{ℕ, zero, suc, ◌+◌, ◌*◌, ◌≤◌, ◌<◌}
+use Prim.Native.Nat.{ℕ, zero, suc, ◌*◌, ◌≤◌, ◌<◌}
 use mathlib.Core.Path.{◌≡◌, refl, sym, ap, ◌∙◌, subst}
 use mathlib.Core.List.{List, [], ◌∷◌, ◌++◌}
 use mathlib.Core.Bool.{Bool, true, false}
@@ -14,7 +14,7 @@ use Rattle.wire.proofs.Laws.{fitting_fits}
 use Rattle.wire.proofs.Pieces.{bad_ok, ok_ok, bind_ok, about_ok, fitting_ok}
 use Rattle.column.specs.declared.types.Kind.{Kind}
 use Rattle.column.specs.Types.{chapter_code, kind_of}
-use Rattle.tree.specs.Numbers.{number_limit, groups, all_groups, Number, number, number_in}
+use Rattle.tree.specs.Numbers.{number_limit, all_groups, Number, number, number_in}
 use Rattle.tree.specs.Tree.{Tree, columns, maximum_of, column_numbers, numbers, encode, Right, no_column_lem, fixed_field, variable_field, a_chapter, WellFormed}
 use Rattle.tree.specs.Reader.{read_file, file_of}
 use Rattle.numbers.specs.Writer.{coded_number, coded, in_range, of_numbers, file_written}

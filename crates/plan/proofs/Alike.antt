@@ -2,16 +2,15 @@
 -- Assumes nothing.
 use Prim.Native.Nat.{ℕ, ◌+◌, ◌≤◌, ◌<◌}
 use mathlib.Core.List.{List}
-use mathlib.Core.Bool.{Bool, true, false, not, true≢false}
+use mathlib.Core.Bool.{Bool, true, false, true≢false}
 use mathlib.Core.Path.{◌≡◌, refl, sym, ap, ◌∙◌}
 use native.Mathlib.Omega.{arith}
 use borrow.Author.Count.{below_none, below_more}
-use borrow.Author.Rules.{length_unmapped}
 use borrow.Author.Tests.{eqb-true, eq-eqb}
 use denote.Laws.{Is}
 use denote.Struct.Declared.{row}
 use mir.Val.{Val}
-use lib.Bits.{bit_and, bit_or, bit_xor, and_le_l, and_le_r, or_add_and, xor_add_and, xor_self}
+use lib.Bits.{bit_or, bit_xor, and_le_l, and_le_r, or_add_and, xor_add_and, xor_self}
 use lib.Dec.{eqb}
 use lib.ListN.{length, get_or}
 use lib.Seq.{ext_get_or}
@@ -62,7 +61,7 @@ module _ (a b : List ℕ) where
 
 -- a plan by value has so many numbers
 plan_long : (p : Plan) (vs : List Val) → Is (row the_type) p vs → length p.numbers ≡ 131
-plan_long p vs g = length_unmapped ℕ p.numbers 131 g.1.1.0.1.0.1
+plan_long p vs g = g.1.1.0.1.0.1
 
 made_long : (cs : List Column) → length (plan_of cs).numbers ≡ 131
 unfolding plan_of

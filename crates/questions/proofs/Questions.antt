@@ -14,7 +14,7 @@ use Rattle.wire.specs.Read.{Bytes, AreBytes, Read, ok, bad, ◌>>=◌, check, ab
 use Rattle.column.specs.Types.{chapter_code}
 use Rattle.tree.specs.Reader.{file_of}
 use mathlib.Core.Option.{Option, none, some}
-use Rattle.tree.specs.Schemas.{Entry, child_number, Schema, schema, read_schemas, schema_at, or0}
+use Rattle.tree.specs.Schemas.{Entry, child_number, Schema, read_schemas, schema_at, or0}
 use Rattle.tree.specs.Table.{table_size, schema_slot, code_in, id_in, start_in, count_in, entry_in, entries_in, schema_in, schemas_in}
 use Rattle.tree.specs.Filling.{Filled, fill_file}
 use Rattle.questions.specs.Questions.{with_schema, alone, counts_of, Selected, selected, selected_of, found_child, child_of, nested_of, entry_at, column_of}

@@ -22,7 +22,7 @@ use Rattle.questions.specs.declared.file.ColumnsRead.{ColumnsRead}
 use Rattle.questions.specs.declared.file.SlotsRead.{SlotsRead}
 use Rattle.questions.specs.declared.file.SlotsRead.TheVariants as slots
 use Rattle.column.specs.Types.{chapter_code}
-use Rattle.tree.specs.Schemas.{Entry, entry, as_column, Schema, schema, read_schemas, schema_count, column_count, schema_at, child_number, or0}
+use Rattle.tree.specs.Schemas.{Entry, entry, as_column, Schema, read_schemas, schema_count, column_count, schema_at, child_number, or0}
 use Rattle.tree.specs.Table.{entries_in, schemas_in, Slots}
 
 -- Every call that takes a schema file and a schema number checks in this order: the file's size (19), the sizes of the

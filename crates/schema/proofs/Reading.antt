@@ -12,7 +12,7 @@ use Rattle.wire.specs.declared.error.Input.TheVariants.{Single}
 use Rattle.wire.specs.Read.{Bytes, Read, ok, bad, ◌>>=◌, check, refused}
 use Rattle.schema.specs.declared.reader.Place.{Place}
 use Rattle.column.specs.Layout.{most_columns}
-use Rattle.tree.specs.Tree.{most_file_columns, columns, member}
+use Rattle.tree.specs.Tree.{most_file_columns, member}
 use Rattle.tree.specs.Table.{schema_slot, id_in, ids_from, ids_in, packed, block}
 use Rattle.column.specs.declared.types.Kind.{Kind}
 use Rattle.column.specs.declared.types.Kind.TheVariants.{Fixed, Variable, Wide, Chapter, Unknown}

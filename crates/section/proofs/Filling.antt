@@ -1,7 +1,7 @@
 -- Filling the table of a section that was accepted: what holds before an element, and how each element keeps it.
 -- Assumes nothing.
 use Prim.Native.Nat.{ℕ, zero, suc, ◌+◌, ◌*◌, ◌-◌, ◌/◌, ◌%◌, ◌<◌, ◌≤◌}
-use mathlib.Core.Path.{◌≡◌, refl, sym, ap, ◌∙◌}
+use mathlib.Core.Path.{◌≡◌, refl, sym, ap, ◌∙◌, subst}
 use mathlib.Core.Logic.{◌⊎◌, inl, inr}
 use mathlib.Core.List.{List, [], ◌++◌}
 use mathlib.Core.Bool.{Bool, true, false}
@@ -374,7 +374,10 @@ module _ (step : ℕ) (S : List Schema) (s : Bytes) (sizes : List ℕ) (acc : Ac
           let g : e.original ≡ (row_by s at origin (get_or s at 0)).original = ap (λ (r : Row). r.original) entry_same in
           record {
             pending = fill_taken.pending;
-            element = rw (entry_same, same.kind) fill_taken.element;
+            element =
+                subst
+                (λ (r : Row). AtElement S s entry₀ (put table (4 * (rows + (1 - e.kind / 3) - 1)) (row_numbers r)) fill_taken.end (rows + (1 - e.kind / 3)) fill_taken.pending)
+                (sym entry_same) (rw same.kind fill_taken.element);
             begun = rw g fill_taken.begun;
             low = rw g (original_low (eqb (kind_by (get_or s at 0) / 3) 0));
             note = note;

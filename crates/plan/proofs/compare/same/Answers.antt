@@ -1,9 +1,7 @@
 -- The loop gathers what differs.
 -- Assumes nothing.
-use Prim.Native.Nat.{◌-◌}
 use native.Mathlib.Omega.{arith}
 use Rattle.plan.proofs.Alike.{gather_start, gather_next, gather_end}
-use borrow.Author.Rules.{rules}
 use Rattle.plan.proofs.compare.same.Goals as goal
 
 pub loop-i-init : goal.loop-i-init

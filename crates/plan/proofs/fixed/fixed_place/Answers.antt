@@ -7,7 +7,6 @@ use Rattle.column.specs.Columns.{is_chapter, prefix_bytes}
 use Rattle.plan.specs.Plans.{planned_column, planned_count, no_stops}
 use Rattle.plan.proofs.Named.{prefix_few, place_missing, place_chapter, place_moving, place_fixed}
 use Rattle.wire.specs.Read.{refused}
-use borrow.Author.Rules.{rules}
 use Rattle.plan.proofs.fixed.fixed_place.Goals as goal
 
 pub returns-then-lesser-k : goal.returns-then-lesser-k

@@ -1,6 +1,6 @@
 -- What is left from column i down is what there was from column k down.
 -- Assumes nothing.
-use Prim.Native.Nat.{◌≤◌, ◌-◌}
+use Prim.Native.Nat.{◌≤◌}
 use mathlib.Core.Path.{◌≡◌}
 use Rattle.plan.specs.Plans.{no_stops, lent}
 use Rattle.plan.proofs.fixed.no_stops.Given as goal

@@ -1,7 +1,6 @@
 -- By the test.
 -- Assumes nothing.
 use Rattle.plan.proofs.Fill.{power_down}
-use borrow.Author.Rules.{rules}
 use Rattle.plan.proofs.make.chapter_bit.Goals as goal
 
 pub returns-then-nullable : goal.returns-then-nullable

@@ -1,6 +1,5 @@
 -- The loop goes on with one more column, a stop or not.
 -- Assumes nothing.
-use Prim.Native.Nat.{◌-◌}
 use mathlib.Core.Path.{refl, sym}
 use native.Mathlib.Omega.{arith}
 use Rattle.column.specs.Packed.{packed_from}
@@ -9,7 +8,6 @@ use Rattle.walk.proofs.Slots.{length_from}
 use Rattle.walk.specs.Presence.{one}
 use Rattle.plan.proofs.Made.{one_few}
 use Rattle.plan.proofs.Fill.{fill_start, fill_stop, mask_room, fill_plain, fill_end}
-use borrow.Author.Rules.{rules}
 use Rattle.plan.proofs.make.fill.Goals as goal
 
 pub loop-i-init : goal.loop-i-init
@@ -26,11 +24,11 @@ overflow_add-bit c =
 
 pub loop-i-preserved-then-is_stop : goal.loop-i-preserved-then-is_stop
 loop-i-preserved-then-is_stop c =
-    fill_stop c.args.slots.now c.args.n c.requires.0 c.loop-i.invariant c.loop-i-test.true c.column_of-column.result c.column_of-column.ensures c.number_of_lem.result c.number_of_lem.ensures c.is_nullable-nullable.result c.is_nullable-nullable.ensures c.one-bit.result c.one-bit.ensures c.is_stop.ensures c.if-is_stop.true c.stop_sized.result (c.stop_sized.ensures c.width-size.ensures) c.first_of-first.ensures
+    fill_stop c.args.slots.now c.args.n c.requires.0 c.loop-i.invariant c.loop-i-test.true c.column_of-column.result c.column_of-column.ensures c.number_of.result c.number_of.ensures c.is_nullable-nullable.result c.is_nullable-nullable.ensures c.one-bit.result c.one-bit.ensures c.is_stop.ensures c.if-is_stop.true c.stop_sized.result (c.stop_sized.ensures c.width-size.ensures) c.first_of-first.ensures
 
 pub overflow_add-mask : goal.overflow_add-mask
 overflow_add-mask c =
-    omega (arith, mask_room c.args.slots.now c.args.n c.requires.0 c.loop-i.invariant c.loop-i-test.true c.column_of-column.result c.column_of-column.ensures c.number_of_lem.result c.number_of_lem.ensures c.is_nullable-nullable.result c.is_nullable-nullable.ensures (one c.is_nullable-nullable.result) refl c.is_stop.ensures c.if-is_stop.false c.chapter_bit-mask.ensures)
+    omega (arith, mask_room c.args.slots.now c.args.n c.requires.0 c.loop-i.invariant c.loop-i-test.true c.column_of-column.result c.column_of-column.ensures c.number_of.result c.number_of.ensures c.is_nullable-nullable.result c.is_nullable-nullable.ensures (one c.is_nullable-nullable.result) refl c.is_stop.ensures c.if-is_stop.false c.chapter_bit-mask.ensures)
 
 pub overflow_add-gap : goal.overflow_add-gap
 overflow_add-gap c =
@@ -42,7 +40,7 @@ overflow_add-bit-else-is_stop c =
 
 pub loop-i-preserved : goal.loop-i-preserved
 loop-i-preserved c =
-    fill_plain c.args.slots.now c.args.n c.requires.0 c.loop-i.invariant c.loop-i-test.true c.column_of-column.result c.column_of-column.ensures c.number_of_lem.result c.number_of_lem.ensures c.is_nullable-nullable.result c.is_nullable-nullable.ensures c.one-bit-else-is_stop.result c.one-bit-else-is_stop.ensures c.is_stop.ensures c.if-is_stop.false c.chapter_bit-mask.ensures c.width-size.ensures
+    fill_plain c.args.slots.now c.args.n c.requires.0 c.loop-i.invariant c.loop-i-test.true c.column_of-column.result c.column_of-column.ensures c.number_of.result c.number_of.ensures c.is_nullable-nullable.result c.is_nullable-nullable.ensures c.one-bit-else-is_stop.result c.one-bit-else-is_stop.ensures c.is_stop.ensures c.if-is_stop.false c.chapter_bit-mask.ensures c.width-size.ensures
 
 pub returns : goal.returns
 returns c =

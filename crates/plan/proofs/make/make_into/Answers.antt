@@ -6,7 +6,6 @@ use native.Mathlib.Omega.{arith}
 use Rattle.column.specs.Packed.{packed_from}
 use Rattle.walk.specs.Presence.{presence_bytes}
 use Rattle.plan.specs.Plans.{plan_of}
-use borrow.Author.Rules.{rules}
 use Rattle.plan.proofs.make.make_into.Goals as goal
 
 pub fill-requires : goal.fill-requires

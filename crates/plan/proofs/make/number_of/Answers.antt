@@ -2,7 +2,6 @@
 -- Assumes nothing.
 use native.Mathlib.Omega.{arith}
 use Rattle.plan.specs.Packed.{packed}
-use borrow.Author.Rules.{rules}
 use Rattle.plan.proofs.make.number_of.Goals as goal
 
 pub returns : goal.returns

@@ -1,0 +1,13 @@
+-- The run so far, where it stands, and its rows.
+-- Assumes nothing.
+use Prim.Native.Nat.{◌+◌, ◌*◌, ◌-◌}
+use mathlib.Core.Path.{◌≡◌}
+use lib.ListN.{length}
+use Rattle.section.specs.Runs.{Run, laid_run}
+use Rattle.section.proofs.runs.put_run.Given as goal
+
+abbrev pub invariant-loop-at : goal.invariant-loop-at
+invariant-loop-at l = Run l.section l.start l.step l.n × (l.at ≡ l.start + l.n * l.step) × (l.table ≡ laid_run l.first l.start l.step l.n l.initial.table)
+
+abbrev pub decreases-loop-at : goal.decreases-loop-at
+decreases-loop-at l = length l.section - l.at
