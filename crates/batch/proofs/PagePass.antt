@@ -1,12 +1,12 @@
 -- Going over the rows of a table: what is ahead of row i, behind the spans that were found, is the page.
 -- Assumes nothing.
-use Prim.Native.Nat.{ℕ, zero, suc, ◌+◌, ◌*◌, ◌-◌, ◌/◌, ◌<◌, ◌≤◌}
+use Prim.Native.Nat.{ℕ, zero, suc, ◌+◌, ◌*◌, ◌-◌, ◌<◌, ◌≤◌}
 use mathlib.Core.Path.{◌≡◌, refl, sym, ap, ◌∙◌}
 use mathlib.Core.List.{List, [], ◌∷◌, ◌++◌, append-nil, append_assoc}
 use native.Mathlib.Omega.{arith}
 use lib.ListN.{length, length-append}
 use Rattle.wire.specs.declared.error.Error.{Error}
-use Rattle.wire.specs.Read.{Bytes, Read, ok, bad, ◌>>=◌, refused}
+use Rattle.wire.specs.Read.{Bytes, Read, ok, refused}
 use Rattle.wire.specs.Output.{put}
 use Rattle.wire.proofs.Laws.{length_put}
 use Rattle.walk.specs.Rows.{Answer}
@@ -14,7 +14,7 @@ use Rattle.batch.specs.declared.page.PageRead.TheVariants as read
 use Rattle.batch.specs.Spans.{row_at, owner_of, Span, span_in}
 use Rattle.batch.specs.Pages.{Numbered, numbered, owned_in, Located, located, located_numbers, Page, page, page_with, page_of, first_in, room_in, page_numbers, page_after, Paged}
 use Rattle.batch.specs.PageScan.{page_from, page_scanned}
-use Rattle.batch.proofs.PageLaid.{length_numbers, none_laid, next_laid}
+use Rattle.batch.proofs.PageLaid.{none_laid, next_laid}
 use Rattle.batch.proofs.Rows.{owned_end, owned_other, owned_next}
 
 -- a page behind spans that were found
