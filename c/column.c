@@ -158,7 +158,7 @@ static void print_integer(const uint8_t *field, size_t length)
 static void print_column(const adtg_plan *plan, const uint32_t *table, size_t rows, const char *name, size_t column,
                          void (*print)(const uint8_t *field, size_t length))
 {
-    uint32_t spans[2 * ADTG_SPAN_NUMBERS];
+    uint32_t spans[2 * ADTG_PAGE_SPAN_NUMBERS];
     size_t from = 0;
     while (from < rows) {
         adtg_page page = adtg_find_page(plan->numbers, section, sizeof section, table, rows * ADTG_ROW_NUMBERS, rows, from,
@@ -166,7 +166,7 @@ static void print_column(const adtg_plan *plan, const uint32_t *table, size_t ro
         must(name, adtg_failure_of(page));
         printf("%s, a page from row %zu on\n", name, from);
         for (size_t i = 0; i < page.spans; i++) {
-            const uint32_t *span = spans + ADTG_SPAN_NUMBERS * i;
+            const uint32_t *span = spans + ADTG_PAGE_SPAN_NUMBERS * i;
             printf("  row %u: ", (unsigned)span[0]);
             if (span[1] == ADTG_NULL_SPAN)
                 printf("null\n");

@@ -54,7 +54,7 @@ static const uint8_t section[] = {0x07, 0x80, 0x05, 0x00, 0x00, 0x00, 0x2A, 0x0F
 static void ask_answers(void)
 {
     uint64_t out[16];
-    uint32_t table[ADTG_ROW_NUMBERS], spans[ADTG_SPAN_NUMBERS];
+    uint32_t table[ADTG_ROW_NUMBERS], spans[ADTG_PAGE_SPAN_NUMBERS];
     uint32_t code = adtg_list_section(schema, sizeof schema, section, sizeof section, table, ADTG_ROW_NUMBERS, out);
     must_be(adtg_failure_out(code, out), 0, 0, 0, "listed");
     code = adtg_list_section(schema, sizeof schema, section, 3, table, ADTG_ROW_NUMBERS, out);
@@ -73,20 +73,28 @@ static void ask_answers(void)
     found = adtg_find(&made.plan, row, 3, 1);
     must_be(FOUND_FAILURE, ADTG_SHORT, 3, ADTG_ROW, "not found");
 
+    code = adtg_find_column(made.plan.numbers, section, sizeof section, table, ADTG_ROW_NUMBERS, ADTG_PARENTS, 1, spans,
+                            ADTG_SPAN_NUMBERS, out);
+    must(out[0] == 1 && spans[0] == 6 && spans[1] == 7, "span of two numbers");
+    must_be(adtg_failure_out(code, out), 0, 0, 0, "all rows");
+    code = adtg_find_column(made.plan.numbers, section, sizeof section, table, ADTG_ROW_NUMBERS, ADTG_PARENTS, 1, spans,
+                            ADTG_SPAN_NUMBERS - 1, out);
+    must_be(adtg_failure_out(code, out), ADTG_CAPACITY, 1, ADTG_OUTPUT, "no room");
+
     adtg_page page = adtg_find_page(made.plan.numbers, section, sizeof section, table, ADTG_ROW_NUMBERS, 1, 0, ADTG_PARENTS, 1,
-                                    spans, ADTG_SPAN_NUMBERS);
+                                    spans, ADTG_PAGE_SPAN_NUMBERS);
     must(page.spans == 1 && page.first == 1 && spans[0] == 0 && spans[1] == 6 && spans[2] == 7, "span");
     must_be(PAGE_FAILURE, 0, 0, 0, "page");
-    page = adtg_find_page(made.plan.numbers, section, 3, table, ADTG_ROW_NUMBERS, 1, 0, ADTG_PARENTS, 1, spans, ADTG_SPAN_NUMBERS);
+    page = adtg_find_page(made.plan.numbers, section, 3, table, ADTG_ROW_NUMBERS, 1, 0, ADTG_PARENTS, 1, spans, ADTG_PAGE_SPAN_NUMBERS);
     must_be(PAGE_FAILURE, ADTG_SHORT, 3, ADTG_SECTION, "no page");
     page = adtg_find_page(made.plan.numbers, section, sizeof section, table, ADTG_ROW_NUMBERS, 2, 0, ADTG_PARENTS, 1, spans,
-                          ADTG_SPAN_NUMBERS);
+                          ADTG_PAGE_SPAN_NUMBERS);
     must_be(PAGE_FAILURE, ADTG_MISSING, 0, ADTG_TABLE, "no table");
     page = adtg_find_page(made.plan.numbers, section, sizeof section, table, ADTG_ROW_NUMBERS, 1, 2, ADTG_PARENTS, 1, spans,
-                          ADTG_SPAN_NUMBERS);
+                          ADTG_PAGE_SPAN_NUMBERS);
     must_be(PAGE_FAILURE, ADTG_MISSING, 0, ADTG_PLACE, "no place");
     page = adtg_find_page(made.plan.numbers, section, sizeof section, table, ADTG_ROW_NUMBERS, 1, 0, ADTG_PARENTS, 2, spans,
-                          ADTG_SPAN_NUMBERS);
+                          ADTG_PAGE_SPAN_NUMBERS);
     must_be(PAGE_FAILURE, ADTG_MISSING, 0, ADTG_COLUMN, "no column");
 
     adtg_reader reader = adtg_first_reader();

@@ -1,7 +1,7 @@
 #!/usr/bin/env bash
-# Builds the C programs against the archive and runs them. Each prints what its file NAME.expected has. The README shows what capture.c
-# prints, and docs/FORMAT.md has a program and what it prints. Both headers serve C99, C11 and C++. No call takes more stack than adtg.h
-# says, and the archive has no data that a call could write.
+# Builds the C programs against the archive and runs them. Each prints what its file NAME.expected has, and three examples one after the
+# other print what the file `expected` has. The README shows what capture.c prints, and docs/FORMAT.md has a program and what it prints.
+# Both headers serve C99, C11 and C++. No call takes more stack than adtg.h says, and the archive has no data that a call could write.
 #
 # The archive is that of target/staticlib, or of the folder that ADTG_ARCHIVE_DIR names.
 set -euo pipefail
@@ -47,9 +47,13 @@ headers() { # LANGUAGE COMPILER...
 rm -rf "$orders"
 mkdir -p "$orders"
 
-for name in example capture arrival texts; do
+for name in example pages capture arrival texts; do
     build "$name"
     run "$name"
+done
+cat "$folder/example.printed" "$folder/capture.printed" "$folder/arrival.printed" >"$folder/printed"
+diff -u expected "$folder/printed" || wrong "the examples do not print what c/expected has"
+for name in pages capture arrival texts; do
     compare "$name"
 done
 while IFS= read -r line; do

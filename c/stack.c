@@ -170,6 +170,11 @@ static uint32_t open_row(void) { return adtg_open_row(plan, data.bytes, data.len
 
 static uint32_t planned_look_up(void) { return adtg_find(&plan, data.bytes, data.length, column).code; }
 
+static uint32_t find_column(void)
+{
+    return adtg_find_column(plan.numbers, data.bytes, data.length, rows, rows_length, owner, column, table, ROOM, out);
+}
+
 static uint32_t find_page(void)
 {
     return adtg_find_page(plan.numbers, data.bytes, data.length, rows, rows_length, rows_length / ADTG_ROW_NUMBERS, 0, owner,
@@ -212,6 +217,7 @@ static struct call {
     {"adtg_fixed_place", fixed_place, 0, 0},
     {"adtg_open_row", open_row, 0, 0},
     {"adtg_planned_look_up", planned_look_up, 0, 0},
+    {"adtg_find_column", find_column, 0, 0},
     {"adtg_find_page", find_page, 0, 0},
 };
 

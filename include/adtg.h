@@ -449,12 +449,29 @@ static inline adtg_found adtg_find(const adtg_plan *plan, const uint8_t *row, si
 /* The owner of the parent's rows. A child's rows have the child id as their owner. */
 #define ADTG_PARENTS SIZE_MAX
 
-/* How many numbers a span has. */
-#define ADTG_SPAN_NUMBERS 3
+/* How many numbers a span of `adtg_find_column` has, and how many a span of a page has. */
+#define ADTG_SPAN_NUMBERS 2
+#define ADTG_PAGE_SPAN_NUMBERS 3
 
 /* What start and end of a span both are if the row has null, and if the column is a chapter. */
 #define ADTG_NULL_SPAN UINT32_C(4294967295)
 #define ADTG_CHAPTER_SPAN UINT32_C(4294967294)
+
+/* Looks up one column in the original data of every row of one owner, all in one call, through the numbers of a plan.
+ *
+ * `numbers` are those of the plan of the owner's schema. `rows` is a table as `adtg_list_section` fills it, of the same section: four
+ * numbers a row, with only as many rows as it answered. Each look-up is that of `adtg_planned_look_up` on the section from the row's
+ * start on. `spans` then has two numbers a row, in the rows' order: start and end of the field in the section, or twice ADTG_NULL_SPAN,
+ * or twice ADTG_CHAPTER_SPAN. Numbers behind the last stay as they were; an error leaves them all.
+ *
+ * The first row that is refused refuses the call, and the offset is the place in the section. Last comes the room: error 16 names the
+ * output, and the offset is the rows that it needs room for.
+ * out: rows of this owner. */
+uint32_t adtg_find_column(const uint64_t numbers[131],
+                          const uint8_t *section, size_t section_length,
+                          const uint32_t *rows, size_t rows_length,
+                          size_t owner, size_t column,
+                          uint32_t *spans, size_t spans_length, uint64_t out[16]);
 
 /* What a page answers. */
 typedef struct adtg_page {
@@ -484,7 +501,7 @@ typedef struct adtg_page {
  *         adtg_page page = adtg_find_page(plan.numbers, section, section_length, table, table_length, rows, from,
  *                                         ADTG_PARENTS, column, spans, spans_length);
  *         if (page.code != 0) return refuse(adtg_failure_of(page));
- *         for (size_t i = 0; i < page.spans; i++) use(spans + ADTG_SPAN_NUMBERS * i);
+ *         for (size_t i = 0; i < page.spans; i++) use(spans + ADTG_PAGE_SPAN_NUMBERS * i);
  *         from = page.first; }
  *
  * `spans` needs room for at least one span, three numbers. With less the answer is 0 spans and no progress. There is no error 16.

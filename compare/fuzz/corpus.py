@@ -40,6 +40,9 @@ def parts(call, words):
         fragments = [run(part) for part in words[1].split(",") if part != "close"]
         return {"file": run(words[0]), "data": b"".join(fragments), "column": len(fragments)}
     start = {"file": run(words[0]), "number": int(words[1])}
+    if call == "find_column":
+        owner = 0 if words[4] == "parents" else int(words[4])
+        return {**start, "data": run(words[2]), "offset": owner, "column": int(words[5]), "space": int(words[6])}
     if call == "find_page":
         # The offset is both the first row and the owner, so the vector's owner comes only where it starts at the first row.
         owner = 0 if words[6] == "parents" else int(words[6])

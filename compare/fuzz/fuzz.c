@@ -22,7 +22,8 @@
 #define HEAD 8u               /* bytes of numbers */
 #define ROW_NUMBERS 4u        /* numbers of a row in a table */
 #define ENTRY_NUMBERS 3u      /* numbers of an entry for a row writer */
-#define SPAN_NUMBERS 3u       /* numbers of a span: row, start, end */
+#define SPAN_NUMBERS 2u       /* numbers of a row in the spans of a batch */
+#define PAGE_SPAN_NUMBERS 3u  /* numbers of a span of a page: row, start, end */
 #define FRAGMENTS 32u         /* of a section at most */
 #define LAST_ERROR 20u
 #define LAST_INPUT 21u
@@ -38,7 +39,8 @@ enum call {
     READ_HEADER, WRITE_HEADER, WRITE_HEADER_SHORT, READ_OPTIONS, WRITE_OPTIONS, READ_SCHEMA, SCHEMA_COLUMNS, SCHEMA_COLUMN,
     SCHEMA_OF_CHILD, WRITE_SCHEMA, SCHEMA_NUMBERS, LOOK_UP, FIELD_COUNT, ROW_END, LOOK_UPDATE, UPDATE_END, CURRENT,
     WRITE_ORIGINAL, WRITE_UPDATE, CHECK_SECTION, LIST_SECTION, MAKE_PLAN, CHECK_PLAN, FIXED_PLACE, FIND, OPEN_ROW,
-    FORGED_PLACE, FORGED_FIND, FORGED_OPEN, FIND_PAGE, FORGED_FIND_PAGE, FEED, CLOSE, FORGED_FEED, FORGED_CLOSE, VERSION
+    FORGED_PLACE, FORGED_FIND, FORGED_OPEN, FIND_COLUMN, FORGED_FIND_COLUMN, FIND_PAGE, FORGED_FIND_PAGE, FEED, CLOSE,
+    FORGED_FEED, FORGED_CLOSE, VERSION
 };
 
 /* What the answers were, for the fuzzer. */
@@ -732,6 +734,64 @@ static void changed_plan(const struct input *in)
     forged_plan(&forged);
 }
 
+/* What a batch is held against: one look-up for each row of the owner. Fills spans that there is room for, and answers the
+ * error or 0, with what a batch says in `out`. */
+static uint32_t one_by_one(const adtg_plan *plan, const struct input *in, const uint32_t *rows, size_t count, size_t owner,
+                           uint32_t *spans, size_t space, uint64_t out[16])
+{
+    size_t length = in->data.length, found_rows = 0;
+    memset(out, 0, 16 * sizeof(uint64_t));
+    for (size_t row = 0; row < count / ROW_NUMBERS; row++) {
+        const uint32_t *numbers = rows + ROW_NUMBERS * row;
+        if ((numbers[0] == PARENT_ROW ? ADTG_PARENTS : numbers[1]) != owner) {
+            continue;
+        }
+        size_t start = numbers[2] < length ? numbers[2] : length;
+        adtg_found found = adtg_find(plan, in->data.at + start, length - start, in->column);
+        if (found.code != 0) {
+            int in_row = found.second == ADTG_ROW;
+            out[0] = in_row ? start + found.first : found.first;
+            out[1] = in_row ? ADTG_SECTION : found.second;
+            return found.code;
+        }
+        if (found_rows < space / SPAN_NUMBERS) {
+            uint32_t mark = found.kind == ADTG_NULL ? ADTG_NULL_SPAN : ADTG_CHAPTER_SPAN;
+            int is_field = found.kind == ADTG_FIELD;
+            spans[SPAN_NUMBERS * found_rows] = is_field ? (uint32_t)(start + found.first) : mark;
+            spans[SPAN_NUMBERS * found_rows + 1] = is_field ? (uint32_t)(start + found.second) : mark;
+        }
+        found_rows++;
+    }
+    out[0] = found_rows;
+    if (found_rows > space / SPAN_NUMBERS) {
+        out[1] = ADTG_OUTPUT;
+        return ADTG_CAPACITY;
+    }
+    return 0;
+}
+
+/* A batch answers what look-ups answer row by row, and leaves the spans behind it; after an error all of them. */
+static void batch(enum call call, const adtg_plan *plan, const struct input *in, const uint32_t *rows, size_t count,
+                  size_t owner)
+{
+    static uint32_t wanted[MAX_SPACE];
+    uint64_t out[16], wanted_out[16];
+    uint32_t *spans = lend_numbers(SPANS_SLOT, in->space, in->guard_in_front);
+    spoil(out);
+    uint32_t code = adtg_find_column(plan->numbers, in->data.at, in->data.length, rows, count, owner, in->column, spans,
+                                     in->space, out);
+    check_reply(call, code, out, 1);
+    uint32_t wanted_code = one_by_one(plan, in, rows, count, owner, wanted, in->space, wanted_out);
+    need(code == wanted_code && memcmp(out, wanted_out, sizeof out) == 0, "a batch answers in another way");
+    size_t filled = code == 0 ? SPAN_NUMBERS * out[0] : 0;
+    need(filled <= in->space && memcmp(spans, wanted, filled * sizeof(uint32_t)) == 0, "a batch finds something else");
+    table_is_kept(spans, filled, in->space);
+    for (size_t at = 0; at < filled; at += SPAN_NUMBERS) {
+        int is_mark = spans[at] == spans[at + 1] && spans[at] >= ADTG_CHAPTER_SPAN;
+        need(is_mark || (spans[at] <= spans[at + 1] && spans[at + 1] <= in->data.length), "a span outside the section");
+    }
+}
+
 /* What a page is asked for, but for section and column. */
 struct asked {
     enum call call;
@@ -749,7 +809,7 @@ static adtg_page refused_page(uint32_t code, uint64_t offset, uint64_t input)
 }
 
 /* What a page is held against: one look-up for each row of the owner. Fills the spans that there is room for. */
-static adtg_page one_by_one(const struct input *in, const struct asked *asked, uint32_t *spans, size_t space)
+static adtg_page page_one_by_one(const struct input *in, const struct asked *asked, uint32_t *spans, size_t space)
 {
     size_t length = in->data.length;
     if (asked->rows > asked->length / ROW_NUMBERS) {
@@ -765,7 +825,7 @@ static adtg_page one_by_one(const struct input *in, const struct asked *asked, u
             continue;
         }
         page.first = row;
-        if (page.spans == space / SPAN_NUMBERS) {
+        if (page.spans == space / PAGE_SPAN_NUMBERS) {
             return page;
         }
         size_t start = numbers[2] < length ? numbers[2] : length;
@@ -777,7 +837,7 @@ static adtg_page one_by_one(const struct input *in, const struct asked *asked, u
             int in_row = found.second == ADTG_ROW;
             return refused_page(found.code, in_row ? start + found.first : found.first, in_row ? ADTG_SECTION : found.second);
         }
-        uint32_t *span = spans + SPAN_NUMBERS * page.spans++;
+        uint32_t *span = spans + PAGE_SPAN_NUMBERS * page.spans++;
         uint32_t mark = found.kind == ADTG_NULL ? ADTG_NULL_SPAN : ADTG_CHAPTER_SPAN;
         int is_field = found.kind == ADTG_FIELD;
         span[0] = (uint32_t)row;
@@ -804,11 +864,11 @@ static adtg_page find_page(const struct input *in, const struct asked *asked, ui
     need(page.code == 0 ? page.second == 0 : page.second <= LAST_INPUT, "an unknown input");
     need(page.code == 0 || page.spans == 0, "spans beside an error");
     count(asked->call, page.code, page.first, page.code == 0 ? page.spans : page.second);
-    need(same_page(page, one_by_one(in, asked, wanted, space)), "a page answers in another way");
-    size_t filled = SPAN_NUMBERS * page.spans;
+    need(same_page(page, page_one_by_one(in, asked, wanted, space)), "a page answers in another way");
+    size_t filled = PAGE_SPAN_NUMBERS * page.spans;
     need(filled <= space && memcmp(*spans, wanted, filled * sizeof(uint32_t)) == 0, "a page finds something else");
     table_is_kept(*spans, filled, space);
-    for (size_t at = 0; at < filled; at += SPAN_NUMBERS) {
+    for (size_t at = 0; at < filled; at += PAGE_SPAN_NUMBERS) {
         uint32_t start = (*spans)[at + 1], end = (*spans)[at + 2];
         int is_mark = start == end && start >= ADTG_CHAPTER_SPAN;
         need(is_mark || (start <= end && end <= in->data.length), "a span outside the section");
@@ -820,18 +880,18 @@ static adtg_page find_page(const struct input *in, const struct asked *asked, ui
 static void all_pages(const struct input *in, struct asked asked)
 {
     static uint32_t wanted[AREA / sizeof(uint32_t)];
-    adtg_page all = one_by_one(in, &asked, wanted, AREA / sizeof(uint32_t));
+    adtg_page all = page_one_by_one(in, &asked, wanted, AREA / sizeof(uint32_t));
     size_t found = 0;
     for (size_t turn = 0; asked.from < asked.rows; turn++) {
         uint32_t *spans;
-        adtg_page page = find_page(in, &asked, &spans, SPAN_NUMBERS + (in->space + 5 * turn) % 17);
+        adtg_page page = find_page(in, &asked, &spans, PAGE_SPAN_NUMBERS + (in->space + 5 * turn) % 17);
         if (page.code != 0) {
             need(found == 0 ? same_page(page, all) : asked.from == all.first, "the pages end with another error");
             break;
         }
         need(page.first > asked.from, "a page does not get on");
         need(found + page.spans <= all.spans, "the pages have more spans");
-        need(memcmp(spans, wanted + SPAN_NUMBERS * found, SPAN_NUMBERS * page.spans * sizeof(uint32_t)) == 0,
+        need(memcmp(spans, wanted + PAGE_SPAN_NUMBERS * found, PAGE_SPAN_NUMBERS * page.spans * sizeof(uint32_t)) == 0,
              "the pages find something else");
         found += page.spans;
         asked.from = page.first;
@@ -840,7 +900,7 @@ static void all_pages(const struct input *in, struct asked asked)
 }
 
 /* A page from any row on, one of any number of rows, and all pages. */
-static void batch(enum call call, const adtg_plan *plan, const struct input *in, const uint32_t *table, size_t length,
+static void pages(enum call call, const adtg_plan *plan, const struct input *in, const uint32_t *table, size_t length,
                   size_t owner)
 {
     struct asked asked = {call, plan, table, length, length / ROW_NUMBERS, 0, owner};
@@ -880,8 +940,10 @@ static void batches(const struct input *in)
             }
             for (int child = 0; child < 2; child++) {
                 size_t owner = child ? id : ADTG_PARENTS;
-                batch(FIND_PAGE, &made.plan, in, numbers, count, owner);
-                batch(FORGED_FIND_PAGE, &forged, in, numbers, count, owner);
+                batch(FIND_COLUMN, &made.plan, in, numbers, count, owner);
+                pages(FIND_PAGE, &made.plan, in, numbers, count, owner);
+                batch(FORGED_FIND_COLUMN, &forged, in, numbers, count, owner);
+                pages(FORGED_FIND_PAGE, &forged, in, numbers, count, owner);
             }
         }
     }
@@ -901,10 +963,14 @@ static void batches(const struct input *in)
         numbers[2] = four[3] < 250 ? start : UINT32_MAX - four[2];
         numbers[3] = four[3];
     }
-    batch(FIND_PAGE, &made.plan, in, rows, count, ADTG_PARENTS);
-    batch(FORGED_FIND_PAGE, &forged, in, rows, count, ADTG_PARENTS);
-    batch(FORGED_FIND_PAGE, &forged, in, rows, count, in->offset % 5);
-    batch(FORGED_FIND_PAGE, &forged, in, rows, count, ((size_t)1 << 32) + in->offset % 5);
+    batch(FIND_COLUMN, &made.plan, in, rows, count, ADTG_PARENTS);
+    pages(FIND_PAGE, &made.plan, in, rows, count, ADTG_PARENTS);
+    batch(FORGED_FIND_COLUMN, &forged, in, rows, count, ADTG_PARENTS);
+    pages(FORGED_FIND_PAGE, &forged, in, rows, count, ADTG_PARENTS);
+    batch(FORGED_FIND_COLUMN, &forged, in, rows, count, in->offset % 5);
+    pages(FORGED_FIND_PAGE, &forged, in, rows, count, in->offset % 5);
+    batch(FORGED_FIND_COLUMN, &forged, in, rows, count, ((size_t)1 << 32) + in->offset % 5);
+    pages(FORGED_FIND_PAGE, &forged, in, rows, count, ((size_t)1 << 32) + in->offset % 5);
 }
 
 /* Small numbers as they are, two others far over any count. */

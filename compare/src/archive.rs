@@ -4,10 +4,10 @@
 use adtg::raw::{self, Malformed};
 
 use crate::reading::arrival::Progress;
-use crate::reading::batch::{Asked, Page, SPAN_NUMBERS};
 use crate::reading::header::Header;
 use crate::reading::numbers::PlanNumbers;
 use crate::reading::options::Options;
+use crate::reading::page::{Asked, Page, PAGE_SPAN_NUMBERS};
 use crate::reading::row::Answer;
 use crate::reading::schema::{Counts, Description};
 use crate::reading::update::{Change, Current};
@@ -202,10 +202,22 @@ pub fn open_look_up(plan: &PlanNumbers, row: &[u8], column: usize) -> Reply<Answ
     }
 }
 
+/// The archive's batch: how many spans stand at the start of `spans`, two numbers each.
+pub fn find_column(
+    plan: &PlanNumbers,
+    section: &[u8],
+    rows: &[u32],
+    owner: usize,
+    column: usize,
+    spans: &mut [u32],
+) -> Reply<usize> {
+    told(raw::find_column(&plan.numbers, section, rows, owner, column, spans).decode())
+}
+
 /// The archive's page of a column: how many spans stand at the start of `spans`, three numbers each,
 /// and which row comes next.
 pub fn find_page(plan: &PlanNumbers, asked: &Asked, spans: &mut [u32]) -> Reply<Page> {
-    let room = spans.len() / SPAN_NUMBERS;
+    let room = spans.len() / PAGE_SPAN_NUMBERS;
     let Asked {
         section,
         table,

@@ -9,7 +9,7 @@ use std::process::ExitCode;
 use std::thread::available_parallelism;
 use std::time::Duration;
 
-use compare::bench::{batches, feeds, look_ups, sections};
+use compare::bench::{batches, feeds, look_ups, pages, sections};
 use compare::trials::{self, Limit};
 use compare::vectors;
 use compare::Totals;
@@ -19,7 +19,8 @@ const USAGE: &str = "usage: compare vectors FOLDER
        compare soak [--seed S] [--minutes N] [--threads N]
        compare bench [--count [fixed|nullable|eight|variable COLUMN]]
        compare bench sections [--count [short|wide|nested|page]]
-       compare bench batch [--count [short|wide|nested|page|short ROWS|wide ROWS|nested ROWS]]
+       compare bench batch [--count [short|wide|nested|page]]
+       compare bench page [--count [short|wide|nested|page|short ROWS|wide ROWS|nested ROWS]]
        compare bench feed [--count [short|wide|nested|page]]";
 
 const DEFAULT_SEED: u64 = 1;
@@ -54,9 +55,10 @@ fn run(words: &[&str]) -> Result<Totals, String> {
         ["bench", "batch"] => batches::run(),
         ["bench", "batch", "--count"] => batches::count(None),
         ["bench", "batch", "--count", rows] => batches::count(Some(rows)),
-        ["bench", "batch", "--count", rows, count] => {
-            batches::count(Some(&format!("{rows} {count}")))
-        }
+        ["bench", "page"] => pages::run(),
+        ["bench", "page", "--count"] => pages::count(None),
+        ["bench", "page", "--count", rows] => pages::count(Some(rows)),
+        ["bench", "page", "--count", rows, count] => pages::count(Some(&format!("{rows} {count}"))),
         ["bench", "feed"] => feeds::run(),
         ["bench", "feed", "--count"] => feeds::count(None),
         ["bench", "feed", "--count", rows] => feeds::count(Some(rows)),

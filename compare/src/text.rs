@@ -5,10 +5,10 @@ use std::ops::Range;
 
 use crate::archive::{Fault, Reply};
 use crate::reading::arrival::Progress;
-use crate::reading::batch::Page;
 use crate::reading::header::Header;
 use crate::reading::numbers::{Part, PlanNumbers, COUNTS};
 use crate::reading::options::Options;
+use crate::reading::page::Page;
 use crate::reading::plan::Plan;
 use crate::reading::row;
 use crate::reading::schema::{Counts, Description};

@@ -6,12 +6,11 @@ use std::str::FromStr;
 
 use crate::archive::{self, Reply};
 use crate::reading::arrival::{Arrival, Progress};
-use crate::reading::batch::{
-    find_page, Asked, Page, CHAPTER_MARK, NULL_MARK, PARENTS, SPAN_NUMBERS,
-};
+use crate::reading::batch::{find_column, CHAPTER_MARK, NULL_MARK, PARENTS, SPAN_NUMBERS};
 use crate::reading::encode::{entry_numbers, write_original, write_update, Entry};
 use crate::reading::header::read_header;
 use crate::reading::options::read_options;
+use crate::reading::page::{find_page, Asked, Page, PAGE_SPAN_NUMBERS};
 use crate::reading::plan::make_plan;
 use crate::reading::row::{field_count, look_up};
 use crate::reading::schema::{read_schema, write_schema, SchemaFile};
@@ -111,6 +110,7 @@ fn call_of(name: &str) -> Option<Call> {
         "write_update" => write_update_line,
         "check_section" => check_section_line,
         "list_section" => list_section_line,
+        "find_column" => find_column_line,
         "find_page" => find_page_line,
         "feed" => feed_line,
         _ => return None,
@@ -310,6 +310,27 @@ fn archive_list_section(schema: &[u8], section: &[u8], before: &[u32]) -> String
     rows_text(&rows, before, &table)
 }
 
+fn find_column_line(inputs: &[&str]) -> Result<Answers, String> {
+    let [schema, number, section, rows, owner, column, numbers] = take(inputs)?;
+    let (schema, section) = (parse_hex(schema)?, parse_hex(section)?);
+    let (number, column) = (parse_number(number)?, parse_number(column)?);
+    let rows = parse_list(rows, parse_number)?;
+    let owner = match owner {
+        "parents" => PARENTS,
+        _ => parse_number(owner)?,
+    };
+    let before: Vec<u32> = (0..parse_number(numbers)?).map(|at| !at).collect();
+    let mut ours = before.clone();
+    let reading = find_in_schema(&schema, number, &section, &rows, owner, column, &mut ours);
+    let mut theirs = before.clone();
+    let archive = archive::make_plan(&schema, number)
+        .and_then(|plan| archive::find_column(&plan, &section, &rows, owner, column, &mut theirs));
+    Ok(Answers {
+        reading: spans_text(&reading, &before, &ours),
+        archive: spans_text(&archive, &before, &theirs),
+    })
+}
+
 fn find_page_line(inputs: &[&str]) -> Result<Answers, String> {
     let [schema, number, section, table, rows, from, owner, column, numbers] = take(inputs)?;
     let (schema, section) = (parse_hex(schema)?, parse_hex(section)?);
@@ -386,6 +407,20 @@ enum Fed {
 fn fed_text<E: Text>(calls: &[Fed], answer: impl FnMut(&Fed) -> Result<Progress, E>) -> String {
     let answers: Vec<String> = calls.iter().map(answer).map(|one| one.text()).collect();
     answers.join(" | ")
+}
+
+/// The reading's batch with the columns of a schema of a file.
+fn find_in_schema(
+    schema: &[u8],
+    number: usize,
+    section: &[u8],
+    rows: &[u32],
+    owner: usize,
+    column: usize,
+    spans: &mut [u32],
+) -> Result<usize, Error> {
+    let file = SchemaFile::read(schema, Input::Schema)?;
+    find_column(file.columns(number)?, section, rows, owner, column, spans)
 }
 
 /// The inputs of a row writer.
@@ -496,12 +531,35 @@ fn rows_text<E: Text>(rows: &Result<usize, E>, before: &[u32], table: &[u32]) ->
     text
 }
 
+/// The spans that a batch found, or its error. Says so if numbers past the spans changed.
+fn spans_text<E: Text>(found: &Result<usize, E>, before: &[u32], spans: &[u32]) -> String {
+    let (mut text, filled) = match found {
+        Ok(count) => (format!("spans {count}"), count.saturating_mul(SPAN_NUMBERS)),
+        Err(error) => (error.text(), 0),
+    };
+    let Some(numbers) = spans.get(..filled) else {
+        return format!("{text}, past the spans");
+    };
+    for span in numbers.chunks(SPAN_NUMBERS) {
+        text += &match *span {
+            [NULL_MARK, NULL_MARK] => " null".to_string(),
+            [CHAPTER_MARK, CHAPTER_MARK] => " chapter".to_string(),
+            [start, end] => format!(" {start}:{end}"),
+            _ => " part of a span".to_string(),
+        };
+    }
+    if spans[filled..] != before[filled..] {
+        text += " with other numbers changed";
+    }
+    text
+}
+
 /// The spans that a page has and the row that comes next, or the error. Says so if numbers past the
 /// spans changed.
 fn page_text<E: Text>(found: &Result<Page, E>, before: &[u32], spans: &[u32]) -> String {
     let filled = found
         .as_ref()
-        .map_or(0, |page| page.spans.saturating_mul(SPAN_NUMBERS));
+        .map_or(0, |page| page.spans.saturating_mul(PAGE_SPAN_NUMBERS));
     let Some(numbers) = spans.get(..filled) else {
         return format!("{}, past the spans", found.text());
     };
@@ -509,7 +567,7 @@ fn page_text<E: Text>(found: &Result<Page, E>, before: &[u32], spans: &[u32]) ->
         Ok(page) => format!("spans {}", page.spans),
         Err(error) => error.text(),
     };
-    for span in numbers.chunks(SPAN_NUMBERS) {
+    for span in numbers.chunks(PAGE_SPAN_NUMBERS) {
         text += &match *span {
             [row, NULL_MARK, NULL_MARK] => format!(" {row}:null"),
             [row, CHAPTER_MARK, CHAPTER_MARK] => format!(" {row}:chapter"),

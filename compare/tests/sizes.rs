@@ -2,8 +2,9 @@
 
 use compare::archive::{self, Fault};
 use compare::reading::arrival::{Arrival, Progress};
-use compare::reading::batch::{Asked, Page, PARENTS};
+use compare::reading::batch::PARENTS;
 use compare::reading::encode::{write_original, write_update};
+use compare::reading::page::{Asked, Page};
 use compare::reading::plan::make_plan;
 use compare::reading::row::{field_count, look_up, row_end, Answer};
 use compare::reading::schema::{
@@ -83,6 +84,31 @@ fn sections_and_their_files_are_measured_before_they_are_read() {
         assert_eq!(of_archive, Err(Fault::Error(error)));
         assert_eq!(table, [9; 5]);
     }
+}
+
+#[test]
+fn a_batch_measures_the_section_before_its_rows() {
+    let large = vec![0; MAX_INPUT + 1];
+    let plan = make_plan(&SCHEMA, 0).unwrap();
+    let numbers = plan.numbers();
+    // Rows at the start, at the last byte and at the end of a section at the limit.
+    let end = MAX_INPUT as u32;
+    let rows = [1, 0, 0, 0, 1, 0, end - 1, 0, 1, 0, end, 0];
+    let find = |section: &[u8], rows: &[u32], column| {
+        let (mut ours, mut theirs) = ([9; 5], [9; 5]);
+        let reading = plan.find_column(section, rows, PARENTS, column, &mut ours);
+        let archive = archive::find_column(&numbers, section, rows, PARENTS, column, &mut theirs);
+        assert_eq!(archive, reading.map_err(Fault::Error));
+        assert_eq!(theirs, ours);
+        (reading, ours)
+    };
+    assert_eq!(find(&large, &rows, 9), (over(Input::Section), [9; 5]));
+    assert_eq!(find(&large, &[], 9), (over(Input::Section), [9; 5]));
+    let full = &large[..MAX_INPUT];
+    let spans = [0, 1, end - 1, end, 9];
+    assert_eq!(find(full, &rows[..8], 0), (Ok(2), spans));
+    let behind = Error::new(ErrorCode::Truncated, MAX_INPUT, Input::Section);
+    assert_eq!(find(full, &rows, 0), (Err(behind), [9; 5]));
 }
 
 /// What both sides answer to a page of the plan of `SCHEMA`, and the seven spans that they are lent.

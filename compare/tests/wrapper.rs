@@ -1,11 +1,12 @@
 //! What the crate `adtg` makes of the archive's replies: the rows of a table, look-ups through a
 //! plan and in an opened row, batches, entries of the row writers. All against the reading.
 
-use adtg::{Owner, Plan, Row, RowKind, Rows, Span, SPAN_NUMBERS};
+use adtg::{Owner, Plan, Row, RowKind, Rows, Span, PAGE_SPAN_NUMBERS};
 use compare::generate;
 use compare::random::Random;
-use compare::reading::batch::{list_by, walk, Asked};
+use compare::reading::batch::find_column;
 use compare::reading::encode::Entry;
+use compare::reading::page::{list_by, walk, Asked};
 use compare::reading::row::{look_up, Answer};
 use compare::reading::schema::SchemaFile;
 use compare::reading::update::{current, Current};
@@ -66,6 +67,54 @@ fn rows_of_a_section_and_their_columns_are_the_readings() {
     }
 }
 
+#[test]
+fn batches_are_the_look_ups_row_by_row() {
+    let mut random = Random::new(4);
+    let mut found = 0;
+    for _ in 0..ROUNDS {
+        let (file, schemas) = generate::schema_file(&mut random);
+        let (section, wanted) = generate::section(&mut random, &file, &schemas);
+        let mut table = vec![0; wanted.len()];
+        let rows = adtg::list_section(&file, &section, &mut table).expect("the section is sound");
+        for number in 0..schemas.schema_count() {
+            let id = schemas.id_at(number);
+            let owner = id.map_or(Owner::Parents, Owner::Child);
+            let plan = Plan::make(&file, number).expect("the schema is sound");
+            let columns = schemas.columns_at(number);
+            let own: Vec<Row> = rows.iter().filter(|row| row.child_id == id).collect();
+            for column in 0..columns.len() {
+                let mut numbers = vec![9; 2 * own.len() + 1];
+                let batch = plan.find_column(&section, rows.numbers(), owner, column, &mut numbers);
+                let spans: Vec<Span> = batch.expect("the rows are sound").iter().collect();
+                let one_by_one = own.iter().map(|row| {
+                    let data = &section[row.original..];
+                    match look_up(&file, number, data, column).expect("the row is sound") {
+                        Answer::Field { place, .. } => Span::Field {
+                            start: row.original + place.start,
+                            end: row.original + place.end,
+                        },
+                        Answer::Null => Span::Null,
+                        Answer::Chapter => Span::Chapter,
+                    }
+                });
+                assert_eq!(spans, one_by_one.collect::<Vec<Span>>());
+                let mut ours = vec![9; numbers.len()];
+                let count = find_column(
+                    columns,
+                    &section,
+                    &wanted,
+                    owner.number(),
+                    column,
+                    &mut ours,
+                );
+                assert_eq!((count, ours), (Ok(own.len()), numbers));
+                found += spans.len();
+            }
+        }
+    }
+    assert!(found > ROUNDS, "{found}");
+}
+
 /// All spans of an owner's rows: those of the iterator, and those of pages with so much room.
 fn spans_of(
     plan: &Plan,
@@ -76,11 +125,11 @@ fn spans_of(
 ) -> Result<Vec<(usize, Span)>, adtg::Error> {
     let (owner, column) = asked;
     let listed: Result<Vec<(usize, Span)>, _> =
-        plan.find_column(section, rows, owner, column).collect();
+        plan.column_spans(section, rows, owner, column).collect();
     let mut pages = Vec::new();
     let mut from = 0;
     let paged = loop {
-        let mut numbers = vec![9; room * SPAN_NUMBERS + 2];
+        let mut numbers = vec![9; room * PAGE_SPAN_NUMBERS + 2];
         match plan.find_page(section, rows, from, owner, column, &mut numbers) {
             Ok(page) => {
                 pages.extend(page.spans.iter());
@@ -97,7 +146,7 @@ fn spans_of(
 }
 
 #[test]
-fn batches_are_the_look_ups_row_by_row() {
+fn pages_are_the_look_ups_row_by_row() {
     let mut random = Random::new(4);
     let mut found = 0;
     for _ in 0..ROUNDS {
@@ -138,7 +187,7 @@ fn batches_are_the_look_ups_row_by_row() {
                     column,
                 };
                 let (list, error) = list_by(walk(columns, column), &asked);
-                let kept = adtg::Spans::from_numbers(list.as_flattened());
+                let kept = adtg::PageSpans::from_numbers(list.as_flattened());
                 let kept = kept.expect("they are spans").iter();
                 assert_eq!((kept.collect(), error), (spans.clone(), None));
                 found += spans.len();

@@ -60,12 +60,13 @@ pub fn run(folder: &Path, out: &mut impl Write) -> Result<(), Box<dyn Error>> {
 
     // A section that is cut short, and a schema that gained a column.
     if let Err(error) = check_section(&schema, &SECTION[..SECTION.len() - 3]) {
-        writeln!(out, "a section cut short: {error}")?;
+        writeln!(out, "a section cut short: {}", error.describe())?;
     }
     if let Err(error) = plan.check(&make_schema(&COLUMNS_GAINED)?, 0) {
         writeln!(
             out,
-            "the plan against a schema that gained a column: {error}"
+            "the plan against a schema that gained a column: {}",
+            error.describe()
         )?;
     }
     Ok(())
@@ -88,7 +89,7 @@ fn find_plan(schema: &[u8], path: &Path, out: &mut impl Write) -> Result<Plan, B
                 writeln!(out, "plan: the kept one is right")?;
                 return Ok(plan);
             }
-            Err(error) => writeln!(out, "plan: the kept one is refused: {error}")?,
+            Err(error) => writeln!(out, "plan: the kept one is refused: {}", error.describe())?,
         },
     }
     writeln!(out, "plan: a new one is made")?;
@@ -113,7 +114,7 @@ fn load_plan(path: &Path) -> Option<Plan> {
         return None;
     }
     let numbers: Vec<u64> = numbers.collect();
-    numbers.try_into().ok().map(Plan::from_numbers)
+    numbers.try_into().ok().map(Plan::from_kept)
 }
 
 /// Prints a column of every row.
@@ -126,7 +127,7 @@ fn print_column(
     out: &mut impl Write,
 ) -> Result<(), Box<dyn Error>> {
     writeln!(out, "{name}")?;
-    for found in plan.find_column(SECTION, rows, Owner::Parents, column) {
+    for found in plan.column_spans(SECTION, rows, Owner::Parents, column) {
         let (row, span) = found?;
         match span {
             Span::Field { start, end } => {

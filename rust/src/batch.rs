@@ -1,17 +1,11 @@
-//! Batches: one column of the rows of one owner, through a plan.
-//!
-//! [`Plan::find_column`] goes over all rows of the owner, as an iterator. It asks the archive for many
-//! rows at once. [`Plan::find_page`] is that one question, for callers that keep the spans.
-
-use std::iter::FusedIterator;
+//! Batches: one column of all rows of one owner, through a plan in one call.
 
 use crate::plan::Plan;
 use crate::raw::{self, Malformed};
-use crate::section::Rows;
 use crate::{Error, MAX_INPUT};
 
-/// How many numbers a span takes: the row, where the field starts and where it ends.
-pub const SPAN_NUMBERS: usize = 3;
+/// How many numbers a span takes.
+pub const SPAN_NUMBERS: usize = 2;
 
 /// Whose rows are asked for.
 #[derive(Clone, Copy, Debug, PartialEq, Eq, Hash)]
@@ -38,52 +32,22 @@ pub enum Span {
     Chapter,
 }
 
-/// The spans of a page. Each has the number of its row in the table.
+/// The spans of a column, in the order of the rows.
 #[derive(Clone, Copy, Debug, PartialEq, Eq)]
 pub struct Spans<'a> {
     numbers: &'a [u32],
 }
 
-/// A page of a column: the spans of some rows, and where to go on.
-#[derive(Clone, Copy, Debug, PartialEq, Eq)]
-pub struct Page<'a> {
-    /// The spans, in the order of the rows.
-    pub spans: Spans<'a>,
-    /// The row that comes next: the next row of the owner, or the number of rows if none is left.
-    pub next: usize,
-    rows: usize,
-}
-
-/// One column of all rows of one owner: an iterator over row numbers and spans.
-/// [`Plan::find_column`] makes it.
-///
-/// An error is its last item. By then it has handed out the column of all rows before.
-#[derive(Clone, Debug)]
-pub struct ColumnSpans<'a> {
-    plan: &'a Plan,
-    section: &'a [u8],
-    rows: Rows<'a>,
-    owner: Owner,
-    column: usize,
-    /// Where the next page begins.
-    from: usize,
-    /// The spans of the last page, and which of them are still to be handed out.
-    page: [[u32; SPAN_NUMBERS]; PAGE_SPANS],
-    at: usize,
-    end: usize,
-}
-
-/// How many spans a page of the iterator has: few, so that it is quick in small sections too.
-const PAGE_SPANS: usize = 32;
-
 impl Plan {
-    /// Looks up one column in every row of one owner, from the first row on. `rows` is the table of
-    /// the same section. Each row is looked up in its original data, as [`look_up`](Plan::look_up)
-    /// does it. Changes of a row are not part of it.
+    /// Looks up one column in the original data of every row of one owner. `rows` are the numbers
+    /// of the section's own table, as [`Rows::numbers`](crate::Rows::numbers) has them; any others
+    /// are allowed too. Each row is looked up as [`look_up`](Plan::look_up) does it in the section
+    /// from the row's start on. Current values of changed rows are not part of it.
     ///
-    /// The iterator hands out the number of each row in the table and what the row says. If a row is
-    /// refused, its error is the last item. The error is then about the section, and its offset is
-    /// the place there.
+    /// `spans` has room for one row in [`SPAN_NUMBERS`] numbers. What lies behind the last span
+    /// stays as it was; an error leaves all of them. The first row that is refused refuses the
+    /// call, at its place in the section. Without enough room the error is of the kind `Capacity`,
+    /// and its offset says how many spans there are.
     ///
     /// ```
     /// use adtg::{list_section, Owner, Plan, Span};
@@ -92,169 +56,32 @@ impl Plan {
     /// // One byte, nullable; then three rows of it, the second null.
     /// let schema = [0x01, 0x11, 0x01];
     /// let section = [0x07, 0x80, 0x2A, 0x07, 0x00, 0x07, 0x80, 0x2B, 0x0F];
-    /// let mut table = [0; 12];
+    /// let (mut table, mut spans) = ([0; 12], [0; 6]);
     /// let rows = list_section(&schema, &section, &mut table)?;
     /// let plan = Plan::make(&schema, 0)?;
-    /// let mut parts = Vec::new();
-    /// for found in plan.find_column(&section, rows, Owner::Parents, 0) {
-    ///     let (row, span) = found?;
-    ///     parts.push((row, span.part(&section)));
-    /// }
-    /// assert_eq!(parts, [(0, Some(&[0x2A][..])), (1, None), (2, Some(&[0x2B]))]);
-    ///
-    /// // A section that is cut short: the rows before the cut are still found.
-    /// let mut column = plan.find_column(&section[..7], rows, Owner::Parents, 0);
-    /// assert_eq!(column.next(), Some(Ok((0, Span::Field { start: 2, end: 3 }))));
-    /// assert_eq!(column.next(), Some(Ok((1, Span::Null))));
-    /// let error = column.next().unwrap().unwrap_err();
-    /// let text = "error 1 at 7 of the row section: the input ends too soon";
-    /// assert_eq!(error.to_string(), text);
-    /// assert_eq!(column.next(), None);
+    /// let spans = plan.find_column(&section, rows.numbers(), Owner::Parents, 0, &mut spans)?;
+    /// let parts: Vec<Option<&[u8]>> = spans.iter().map(|span| span.part(&section)).collect();
+    /// assert_eq!(parts, [Some(&[0x2A][..]), None, Some(&[0x2B])]);
+    /// assert_eq!(spans.get(1), Some(Span::Null));
     /// # Ok(())
     /// # }
     /// ```
-    #[inline]
     pub fn find_column<'a>(
-        &'a self,
-        section: &'a [u8],
-        rows: Rows<'a>,
-        owner: Owner,
-        column: usize,
-    ) -> ColumnSpans<'a> {
-        ColumnSpans {
-            plan: self,
-            section,
-            rows,
-            owner,
-            column,
-            from: 0,
-            page: [[0; SPAN_NUMBERS]; PAGE_SPANS],
-            at: 0,
-            end: 0,
-        }
-    }
-
-    /// Looks up one column in the rows of one owner, from row `from` of the table on. It fills
-    /// `spans` for as many rows as there is room for, [`SPAN_NUMBERS`] numbers each, and says which
-    /// row comes next. Numbers behind the last span stay as they were.
-    ///
-    /// A row that is refused ends the page before it. If it is the first row of the page, the call
-    /// answers its error, and all of `spans` stays as it was. The error is about the section; its
-    /// offset is the place there. An error about the column stays one about the column.
-    ///
-    /// A `from` that is greater than the number of rows is an error of the kind `Missing` about the
-    /// place. Lend room for one span at least, or the page does not get on.
-    ///
-    /// ```
-    /// use adtg::{list_section, Owner, Plan, Span, SPAN_NUMBERS};
-    ///
-    /// # fn main() -> Result<(), adtg::Error> {
-    /// // One byte; then five rows of it.
-    /// let schema = [0x01, 0x11, 0x00];
-    /// let section = [7, 10, 7, 11, 7, 12, 7, 13, 7, 14, 0x0F];
-    /// let mut table = [0; 20];
-    /// let rows = list_section(&schema, &section, &mut table)?;
-    /// let plan = Plan::make(&schema, 0)?;
-    ///
-    /// // Pages of two spans.
-    /// let mut buffer = [0; 2 * SPAN_NUMBERS];
-    /// let (mut from, mut found) = (0, Vec::new());
-    /// while from < rows.len() {
-    ///     let page = plan.find_page(&section, rows, from, Owner::Parents, 0, &mut buffer)?;
-    ///     for (row, span) in page.spans.iter() {
-    ///         found.push((row, span.part(&section).unwrap()[0]));
-    ///     }
-    ///     from = page.next;
-    /// }
-    /// assert_eq!(found, [(0, 10), (1, 11), (2, 12), (3, 13), (4, 14)]);
-    /// # Ok(())
-    /// # }
-    /// ```
-    // Always, so that a page takes one call and not two.
-    #[inline(always)]
-    pub fn find_page<'a>(
         &self,
         section: &[u8],
-        rows: Rows,
-        from: usize,
+        rows: &[u32],
         owner: Owner,
         column: usize,
         spans: &'a mut [u32],
-    ) -> Result<Page<'a>, Error> {
-        let (table, count, room) = (rows.numbers(), rows.len(), spans.len() / SPAN_NUMBERS);
+    ) -> Result<Spans<'a>, Error> {
         let owner = owner.number();
-        let reply = raw::find_page(
-            self.numbers(),
-            section,
-            table,
-            count,
-            from,
-            owner,
-            column,
-            spans,
-        );
-        let paged = reply.result(from..count, room)?;
-        Ok(Page {
-            spans: Spans {
-                numbers: &spans[..paged.spans * SPAN_NUMBERS],
-            },
-            next: paged.next,
-            rows: count,
+        let reply = raw::find_column(self.numbers(), section, rows, owner, column, spans);
+        let count = reply.result()?;
+        Ok(Spans {
+            numbers: &spans[..count * SPAN_NUMBERS],
         })
     }
 }
-
-impl Page<'_> {
-    /// True if no row of the owner is left.
-    pub fn is_last(self) -> bool {
-        self.next == self.rows
-    }
-}
-
-impl ColumnSpans<'_> {
-    /// Asks for the next page: true if there is one, with a span at least.
-    #[inline(never)]
-    fn turn(&mut self) -> Result<bool, Error> {
-        let rows = self.rows.len();
-        if self.from >= rows {
-            return Ok(false);
-        }
-        // After an error no row is left.
-        let from = std::mem::replace(&mut self.from, rows);
-        (self.at, self.end) = (0, 0);
-        let room = self.page.as_flattened_mut();
-        let page =
-            self.plan
-                .find_page(self.section, self.rows, from, self.owner, self.column, room)?;
-        (self.from, self.end) = (page.next, page.spans.len());
-        Ok(self.end > 0)
-    }
-}
-
-impl Iterator for ColumnSpans<'_> {
-    type Item = Result<(usize, Span), Error>;
-
-    #[inline]
-    fn next(&mut self) -> Option<Result<(usize, Span), Error>> {
-        if self.at >= self.end {
-            match self.turn() {
-                Ok(true) => {}
-                Ok(false) => return None,
-                Err(error) => return Some(Err(error)),
-            }
-        }
-        let found = located(&self.page[self.at]);
-        self.at += 1;
-        Some(Ok(found))
-    }
-
-    fn size_hint(&self) -> (usize, Option<usize>) {
-        let ready = self.end - self.at;
-        (ready, Some(ready + self.rows.len() - self.from))
-    }
-}
-
-impl FusedIterator for ColumnSpans<'_> {}
 
 impl Owner {
     /// The number of `adtg.h`.
@@ -268,26 +95,9 @@ impl Owner {
 }
 
 impl Span {
-    /// The marks of `adtg.h`, which start and end of a span both are where there is no field.
-    const NULL: u32 = 4_294_967_295;
-    const CHAPTER: u32 = 4_294_967_294;
-
-    /// The span of three numbers, if they have a meaning. The first is the row's.
-    #[inline]
-    fn of(numbers: &[u32; SPAN_NUMBERS]) -> Option<Span> {
-        let [_, start, end] = *numbers;
-        if start <= end && end as usize <= MAX_INPUT {
-            return Some(Span::Field {
-                start: start as usize,
-                end: end as usize,
-            });
-        }
-        match (start, end) {
-            (Span::NULL, Span::NULL) => Some(Span::Null),
-            (Span::CHAPTER, Span::CHAPTER) => Some(Span::Chapter),
-            _ => None,
-        }
-    }
+    /// The marks of `adtg.h`, which both numbers of a span are.
+    pub(crate) const NULL: u32 = 4_294_967_295;
+    pub(crate) const CHAPTER: u32 = 4_294_967_294;
 
     /// The field's bytes in the section that it was found in; `None` where there is no field.
     #[inline]
@@ -300,23 +110,7 @@ impl Span {
 }
 
 impl<'a> Spans<'a> {
-    /// The spans of numbers that you kept, three each. `None` if they are not the numbers of whole
-    /// spans: if one has neither a field nor a mark, or a field that ends before it starts.
-    ///
-    /// ```
-    /// use adtg::{Span, Spans};
-    ///
-    /// let spans = Spans::from_numbers(&[4, 20, 24]).unwrap();
-    /// assert_eq!(spans.get(0), Some((4, Span::Field { start: 20, end: 24 })));
-    /// assert_eq!(Spans::from_numbers(&[4, 24, 20]), None);
-    /// ```
-    pub fn from_numbers(numbers: &'a [u32]) -> Option<Spans<'a>> {
-        let (spans, rest) = numbers.as_chunks();
-        let is_sound = rest.is_empty() && spans.iter().all(|span| Span::of(span).is_some());
-        is_sound.then_some(Spans { numbers })
-    }
-
-    /// How many spans there are.
+    /// How many spans there are: one for each row of the owner.
     pub fn len(self) -> usize {
         self.numbers.len() / SPAN_NUMBERS
     }
@@ -326,35 +120,42 @@ impl<'a> Spans<'a> {
         self.numbers.is_empty()
     }
 
-    /// The row and the span of this number, counted from 0.
-    pub fn get(self, number: usize) -> Option<(usize, Span)> {
-        self.numbers.as_chunks().0.get(number).map(located)
+    /// The span of this number, counted from 0.
+    pub fn get(self, number: usize) -> Option<Span> {
+        let mut pairs = self.numbers.chunks_exact(SPAN_NUMBERS);
+        pairs.nth(number).map(span)
     }
 
-    /// All rows and their spans, in order.
-    #[inline]
-    pub fn iter(self) -> impl ExactSizeIterator<Item = (usize, Span)> + 'a {
-        self.numbers.as_chunks().0.iter().map(located)
+    /// All spans, in order.
+    pub fn iter(self) -> impl ExactSizeIterator<Item = Span> + 'a {
+        self.numbers.chunks_exact(SPAN_NUMBERS).map(span)
     }
 
-    /// The numbers of the spans, three each: the row, then start and end of a field or twice a mark.
+    /// The numbers of the spans, two each: start and end of a field, or twice a mark.
     pub fn numbers(self) -> &'a [u32] {
         self.numbers
     }
 }
 
-/// The row and the span that three numbers say.
-#[inline]
-fn located(numbers: &[u32; SPAN_NUMBERS]) -> (usize, Span) {
-    match Span::of(numbers) {
-        Some(span) => (numbers[0] as usize, span),
-        None => malformed(numbers),
-    }
+/// The span that two numbers say.
+fn span(numbers: &[u32]) -> Span {
+    decode(numbers).unwrap_or_else(|| {
+        let numbers: Vec<u64> = numbers.iter().copied().map(u64::from).collect();
+        Malformed::new(0, &numbers).fail()
+    })
 }
 
-#[cold]
-fn malformed(numbers: &[u32; SPAN_NUMBERS]) -> ! {
-    Malformed::new(0, &numbers.map(u64::from)).fail()
+/// The span, if its numbers have a meaning.
+fn decode(numbers: &[u32]) -> Option<Span> {
+    match *numbers {
+        [Span::NULL, Span::NULL] => Some(Span::Null),
+        [Span::CHAPTER, Span::CHAPTER] => Some(Span::Chapter),
+        [start, end] if start <= end && end as usize <= MAX_INPUT => Some(Span::Field {
+            start: start as usize,
+            end: end as usize,
+        }),
+        _ => None,
+    }
 }
 
 #[cfg(test)]
@@ -362,13 +163,6 @@ mod tests {
     use super::*;
     use crate::tests::{ROW, S, SECTION, T};
     use crate::{list_section, ErrorKind, Input};
-
-    /// The marks, twice each as in a span.
-    const NULL: [u32; 2] = [u32::MAX; 2];
-    const CHAPTER: [u32; 2] = [u32::MAX - 1; 2];
-
-    /// The rows of `SECTION`: a parent, and a changed child.
-    const ROWS: [u32; 8] = [1, 0, 1, 0, 3, 7, 10, 16];
 
     fn field(start: usize, end: usize) -> Span {
         Span::Field { start, end }
@@ -382,10 +176,6 @@ mod tests {
         }
     }
 
-    fn rows(numbers: &[u32]) -> Rows<'_> {
-        Rows::from_numbers(numbers).expect("the numbers are those of rows")
-    }
-
     /// Two parent rows of S: the first as `ROW`, the second with null in column 1.
     fn rows_of_s() -> (Vec<u8>, Vec<u32>) {
         let mut section = vec![0x07];
@@ -396,216 +186,86 @@ mod tests {
         (section, table)
     }
 
-    /// So many parent rows of one byte each, with a child's row after every third.
-    fn many_rows(parents: usize) -> (Plan, Vec<u8>, Vec<u32>) {
-        let file = [0x02, 0x11, 0x00, 0x88, 0x01, 0x00, 0x07, 0x01, 0x11, 0x00];
-        let mut section = Vec::new();
-        for parent in 0..parents {
-            section.extend([0x07, parent as u8]);
-            if parent % 3 == 2 {
-                section.extend([0x87, 7, 0, 0, 0, 0x2A]);
-            }
-        }
-        section.push(0x0F);
-        let mut table = vec![0; 2 * parents * crate::ROW_NUMBERS];
-        let count = list_section(&file, &section, &mut table).unwrap().len();
-        table.truncate(count * crate::ROW_NUMBERS);
-        (Plan::make(&file, 0).unwrap(), section, table)
-    }
-
     #[test]
     fn a_column_is_found_in_every_row() {
-        let (section, table) = rows_of_s();
+        let (section, rows) = rows_of_s();
         let plan = Plan::make(&S, 0).unwrap();
-        let find = |column| -> Vec<(usize, Span)> {
-            let found = plan.find_column(&section, rows(&table), Owner::Parents, column);
-            let found: Result<Vec<(usize, Span)>, Error> = found.collect();
-            let mut numbers = [9; 8];
-            let page = plan.find_page(
-                &section,
-                rows(&table),
-                0,
-                Owner::Parents,
-                column,
-                &mut numbers,
-            );
-            let page = page.unwrap();
-            assert_eq!((page.next, page.is_last()), (2, true));
-            assert_eq!(Ok(page.spans.iter().collect()), found);
-            assert_eq!(numbers[6..], [9; 2]);
-            found.unwrap()
+        let find = |column| {
+            let mut numbers = [9; 5];
+            let spans = plan.find_column(&section, &rows, Owner::Parents, column, &mut numbers);
+            let spans: Vec<Span> = spans.unwrap().iter().collect();
+            assert_eq!(numbers[4], 9);
+            spans
         };
-        assert_eq!(find(0), [(0, field(2, 6)), (1, field(14, 18))]);
-        assert_eq!(find(1), [(0, field(7, 11)), (1, Span::Null)]);
-        assert_eq!(find(2), [(0, field(11, 12)), (1, field(18, 19))]);
-        assert_eq!(find(1)[0].1.part(&section), Some(&ROW[6..10]));
-        assert_eq!(find(1)[1].1.part(&section), None);
+        assert_eq!(find(0), [field(2, 6), field(14, 18)]);
+        assert_eq!(find(1), [field(7, 11), Span::Null]);
+        assert_eq!(find(2), [field(11, 12), field(18, 19)]);
+        assert_eq!(find(1)[0].part(&section), Some(&ROW[6..10]));
+        assert_eq!(find(1)[1].part(&section), None);
         assert_eq!(field(2, 99).part(&section), None);
     }
 
     #[test]
     fn each_owner_has_its_own_rows() {
+        let rows = [1, 0, 1, 0, 3, 7, 10, 16];
         let (parent, child) = (Plan::make(&T, 0).unwrap(), Plan::make(&T, 1).unwrap());
         let find = |plan: &Plan, owner, column| {
-            let found = plan.find_column(&SECTION, rows(&ROWS), owner, column);
-            found
-                .collect::<Result<Vec<(usize, Span)>, Error>>()
-                .unwrap()
+            let mut numbers = [9; 2];
+            let spans = plan.find_column(&SECTION, &rows, owner, column, &mut numbers);
+            spans.unwrap().iter().collect::<Vec<Span>>()
         };
-        assert_eq!(find(&parent, Owner::Parents, 0), [(0, field(1, 5))]);
-        assert_eq!(find(&parent, Owner::Parents, 1), [(0, Span::Chapter)]);
+        assert_eq!(find(&parent, Owner::Parents, 0), [field(1, 5)]);
+        assert_eq!(find(&parent, Owner::Parents, 1), [Span::Chapter]);
         // The original data, though the row is changed.
-        assert_eq!(find(&child, Owner::Child(7), 0), [(1, field(10, 11))]);
+        assert_eq!(find(&child, Owner::Child(7), 0), [field(10, 11)]);
         assert_eq!(find(&child, Owner::Child(8), 0), []);
         assert_eq!(find(&child, Owner::Child(u32::MAX), 0), []);
     }
 
     #[test]
-    fn a_page_has_as_many_spans_as_there_is_room_for() {
-        let (section, table) = rows_of_s();
-        let plan = Plan::make(&S, 0).unwrap();
-        for (room, from, next, spans) in [
-            (0, 0, 0, &[][..]),
-            (2, 0, 0, &[]),
-            (2, 1, 1, &[]),
-            (2, 2, 2, &[]),
-            (3, 0, 1, &[0, 2, 6]),
-            (5, 0, 1, &[0, 2, 6]),
-            (3, 1, 2, &[1, 14, 18]),
-            (6, 0, 2, &[0, 2, 6, 1, 14, 18]),
-            (7, 0, 2, &[0, 2, 6, 1, 14, 18]),
-            (7, 2, 2, &[]),
-        ] {
-            let mut numbers = [9; 7];
-            let lent = &mut numbers[..room];
-            let page = plan.find_page(&section, rows(&table), from, Owner::Parents, 0, lent);
-            let page = page.unwrap();
-            assert_eq!(
-                (page.next, page.spans.numbers()),
-                (next, spans),
-                "{room} {from}"
-            );
-            assert_eq!(page.is_last(), next == 2);
-            let filled = spans.len();
-            assert_eq!(numbers[filled..], [9; 7][filled..]);
-        }
-    }
-
-    #[test]
     fn an_error_leaves_the_spans() {
-        let (section, table) = rows_of_s();
+        let (section, rows) = rows_of_s();
         let plan = Plan::make(&S, 0).unwrap();
-        let mut numbers = [9; 7];
-        let mut find = |section: &[u8], table: &[u32], from, column| {
-            let page = plan.find_page(
-                section,
-                rows(table),
-                from,
-                Owner::Parents,
-                column,
-                &mut numbers,
-            );
-            let answer = page.map(|page| page.next);
-            assert_eq!(numbers, [9; 7]);
+        let mut numbers = [9; 3];
+        let mut find = |section: &[u8], rows: &[u32], column| {
+            let spans = plan.find_column(section, rows, Owner::Parents, column, &mut numbers);
+            let answer = spans.map(|spans| spans.len());
+            assert_eq!(numbers, [9; 3]);
             answer
         };
+        let room = error(ErrorKind::Capacity, 2, Input::Output);
+        assert_eq!(find(&section, &rows, 0), Err(room));
         let short = error(ErrorKind::Short, 17, Input::Section);
-        assert_eq!(find(&section[..17], &table, 1, 0), Err(short));
+        assert_eq!(find(&section[..17], &rows, 0), Err(short));
         let past = error(ErrorKind::Short, 20, Input::Section);
-        assert_eq!(find(&section, &[1, 0, u32::MAX, 0], 0, 0), Err(past));
+        assert_eq!(find(&section, &[1, 0, u32::MAX, 0], 0), Err(past));
         let missing = error(ErrorKind::Missing, 0, Input::Column);
-        assert_eq!(find(&section, &table, 0, 3), Err(missing));
-        let place = error(ErrorKind::Missing, 0, Input::Place);
-        assert_eq!(find(&section, &table, 3, 0), Err(place));
-        assert_eq!(find(&section, &table, usize::MAX, 3), Err(place));
+        assert_eq!(find(&section, &rows, 3), Err(missing));
         let large = error(ErrorKind::TooLarge, 0, Input::Section);
-        assert_eq!(find(&vec![0; MAX_INPUT + 1], &table, 3, 3), Err(large));
-        // Without a row nothing is asked for.
-        assert_eq!(find(&section, &table, 2, usize::MAX), Ok(2));
-    }
-
-    #[test]
-    fn more_rows_than_the_table_or_any_section_has_are_refused() {
-        let plan = Plan::make(&S, 0).unwrap();
-        let table = vec![0; (MAX_INPUT + 1) * crate::ROW_NUMBERS];
-        let find = |table: &[u32], rows| {
-            let owner = Owner::Parents.number();
-            let reply = raw::find_page(plan.numbers(), &[], table, rows, 0, owner, 0, &mut []);
-            reply.result(0..rows, 0).map(|paged| paged.next)
-        };
-        let missing = error(ErrorKind::Missing, 0, Input::Table);
-        assert_eq!(find(&table, MAX_INPUT + 1), Err(missing));
-        assert_eq!(find(&table, MAX_INPUT), Ok(MAX_INPUT));
-        assert_eq!(find(&table, usize::MAX), Err(missing));
-        for (length, rows) in [(0, 1), (3, 1), (7, 2), (8, 3)] {
-            assert_eq!(find(&table[..length], rows), Err(missing));
-            assert_eq!(find(&table[..length], rows - 1), Ok(rows - 1));
-        }
-    }
-
-    #[test]
-    fn the_iterator_turns_the_pages() {
-        for parents in [0, 1, 2, 3, 63, 64, 65, 127, 128, 129, 500] {
-            let (plan, section, table) = many_rows(parents);
-            let found = plan.find_column(&section, rows(&table), Owner::Parents, 0);
-            let (low, high) = found.size_hint();
-            let found: Vec<(usize, Span)> = found.map(Result::unwrap).collect();
-            assert!(low <= parents && high >= Some(parents), "{low} {high:?}");
-            let own = rows(&table).iter().enumerate();
-            let own = own.filter(|(_, row)| row.child_id.is_none());
-            let wanted = own.map(|(number, row)| (number, field(row.original, row.original + 1)));
-            assert_eq!(found, wanted.collect::<Vec<_>>(), "{parents}");
-            assert_eq!(found.len(), parents);
-        }
-    }
-
-    #[test]
-    fn the_iterator_ends_with_an_error() {
-        for good in [0, 1, 63, 64, 65, 130] {
-            let (plan, mut section, table) = many_rows(200);
-            let own: Vec<_> = rows(&table)
-                .iter()
-                .filter(|row| row.child_id.is_none())
-                .collect();
-            // The section ends before the row's byte.
-            section.truncate(own[good].original);
-            let mut found = plan.find_column(&section, rows(&table), Owner::Parents, 0);
-            assert_eq!(
-                found.by_ref().take(good).filter(Result::is_ok).count(),
-                good
-            );
-            let short = error(ErrorKind::Short, section.len(), Input::Section);
-            assert_eq!(found.next(), Some(Err(short)), "{good}");
-            assert_eq!(found.size_hint(), (0, Some(0)));
-            assert_eq!((found.next(), found.next()), (None, None));
-        }
-        // An error that every row has is the only item.
-        let (plan, section, table) = many_rows(3);
-        let mut found = plan.find_column(&section, rows(&table), Owner::Parents, 2);
-        let missing = error(ErrorKind::Missing, 0, Input::Column);
-        assert_eq!((found.next(), found.next()), (Some(Err(missing)), None));
+        assert_eq!(find(&vec![0; MAX_INPUT + 1], &rows, 0), Err(large));
+        // Without a row nothing is asked for. Numbers that make no row are ignored.
+        assert_eq!(find(&section, &rows[..3], usize::MAX), Ok(0));
     }
 
     #[test]
     fn spans_are_counted_and_listed() {
-        let numbers = [3, 2, 6, 5, NULL[0], NULL[1]];
-        let spans = Spans::from_numbers(&numbers).unwrap();
+        let numbers = [2, 6, 4_294_967_295, 4_294_967_295];
+        let spans = Spans { numbers: &numbers };
         assert_eq!((spans.len(), spans.is_empty()), (2, false));
-        assert_eq!(spans.get(0), Some((3, field(2, 6))));
-        assert_eq!(spans.get(1), Some((5, Span::Null)));
+        assert_eq!(spans.get(0), Some(field(2, 6)));
+        assert_eq!(spans.get(1), Some(Span::Null));
         assert_eq!((spans.get(2), spans.get(usize::MAX)), (None, None));
         assert_eq!(spans.numbers(), numbers);
-        assert!(Spans::from_numbers(&[]).unwrap().is_empty());
+        assert!(Spans { numbers: &[] }.is_empty());
     }
 
     #[test]
     fn a_span_lies_in_a_section_or_is_a_mark() {
-        let (null, chapter, most) = (NULL[0], CHAPTER[0], MAX_INPUT as u32);
-        let span = |[start, end]: [u32; 2]| Span::of(&[7, start, end]);
-        assert_eq!(span([6, 6]), Some(field(6, 6)));
-        assert_eq!(span([most, most]), Some(field(MAX_INPUT, MAX_INPUT)));
-        assert_eq!(span(NULL), Some(Span::Null));
-        assert_eq!(span(CHAPTER), Some(Span::Chapter));
+        let (null, chapter, most) = (u32::MAX, u32::MAX - 1, MAX_INPUT as u32);
+        assert_eq!(decode(&[6, 6]), Some(field(6, 6)));
+        assert_eq!(decode(&[most, most]), Some(field(MAX_INPUT, MAX_INPUT)));
+        assert_eq!(decode(&[null, null]), Some(Span::Null));
+        assert_eq!(decode(&[chapter, chapter]), Some(Span::Chapter));
         for wrong in [
             [7, 6],
             [6, most + 1],
@@ -615,16 +275,7 @@ mod tests {
             [chapter, null],
             [null - 2, null - 2],
         ] {
-            assert_eq!(span(wrong), None, "{wrong:?}");
-            let numbers = [1, 2, 3, 7, wrong[0], wrong[1]];
-            assert_eq!(Spans::from_numbers(&numbers), None);
-            assert!(Spans::from_numbers(&numbers[..3]).is_some());
-        }
-        // A part of a span is none.
-        let numbers = [1, 2, 3, 4, 5, 6];
-        for length in 0..=6 {
-            let spans = Spans::from_numbers(&numbers[..length]);
-            assert_eq!(spans.is_some(), length % SPAN_NUMBERS == 0);
+            assert_eq!(decode(&wrong), None, "{wrong:?}");
         }
     }
 }

@@ -186,16 +186,6 @@ impl Input {
     }
 }
 
-/// The texts are those of `adtg_text.h`.
-///
-/// ```
-/// use adtg::{read_header, Plan};
-///
-/// let error = read_header(&[0x01, 0x08]).unwrap_err();
-/// assert_eq!(error.to_string(), "error 2 at 1 of the input: a constant byte differs");
-/// let error = Plan::make(&[0x01, 0x11, 0x00], 1).unwrap_err();
-/// assert_eq!(error.to_string(), "error 18 of the schema number: there is no such schema");
-/// ```
 impl fmt::Display for Error {
     fn fmt(&self, f: &mut fmt::Formatter) -> fmt::Result {
         let Error {
@@ -203,28 +193,100 @@ impl fmt::Display for Error {
             offset,
             input,
         } = self;
-        let code = kind.code();
-        match kind {
-            ErrorKind::Capacity => write!(
-                f,
-                "error {code} of {input}: it needs room for {offset} {}",
-                input.room()
-            ),
-            ErrorKind::PlanMismatch | ErrorKind::TooLarge => {
-                write!(f, "error {code} of {input}: {kind}")
-            }
-            ErrorKind::Missing => write!(f, "error {code} of {input}: {}", input.missing()),
-            ErrorKind::Entry => write!(f, "error {code} of {input}, column {offset}: {kind}"),
-            _ => write!(f, "error {code} at {offset} of {input}: {kind}"),
-        }
+        write!(f, "error {} at {offset} of {input}: {kind}", kind.code())
     }
 }
 
 impl std::error::Error for Error {}
 
+impl fmt::Display for ErrorKind {
+    fn fmt(&self, f: &mut fmt::Formatter) -> fmt::Result {
+        f.write_str(match self {
+            ErrorKind::Short => "the input is short",
+            ErrorKind::Constant => "a constant byte differs",
+            ErrorKind::Value => "a value that is not allowed",
+            ErrorKind::OptionsSize => "the size of the handler options is wrong",
+            ErrorKind::NumberForm => "a number is too long or not in its shortest form",
+            ErrorKind::Range => "a number is out of range",
+            ErrorKind::Limit => "too deep, or too many columns",
+            ErrorKind::RepeatedId => "a child id is repeated",
+            ErrorKind::UnknownToken => "an unknown token",
+            ErrorKind::UnknownId => "an unknown child id",
+            ErrorKind::Unpaired => "a change or deletion without its child row",
+            ErrorKind::ChapterBit => "the bit of a chapter is set",
+            ErrorKind::ForceNull => "null is forced where it may not be",
+            ErrorKind::Length => "a length that is not allowed",
+            ErrorKind::Trailing => "bytes after the end",
+            ErrorKind::Capacity => "more room is needed",
+            ErrorKind::PlanMismatch => "the plan is not that of the schema",
+            ErrorKind::Missing => "there is none",
+            ErrorKind::TooLarge => "the input is too large",
+            ErrorKind::Entry => "an entry can't stand in its column",
+        })
+    }
+}
+
+impl fmt::Display for Input {
+    fn fmt(&self, f: &mut fmt::Formatter) -> fmt::Result {
+        f.write_str(match self {
+            Input::Numbers => "the numbers",
+            other => other.text(),
+        })
+    }
+}
+
+/// An error in the words of `adtg_text.h`. [`Error::describe`] makes it.
+#[derive(Clone, Copy, Debug, PartialEq, Eq)]
+pub struct Described {
+    error: Error,
+}
+
+impl Error {
+    /// The error in the words of `adtg_text.h`, which say what the offset counts, and what is missing.
+    ///
+    /// ```
+    /// use adtg::{read_header, Plan};
+    ///
+    /// let error = read_header(&[0x01, 0x08]).unwrap_err();
+    /// let text = "error 2 at 1 of the input: a constant byte differs";
+    /// assert_eq!(error.describe().to_string(), text);
+    /// let error = Plan::make(&[0x01, 0x11, 0x00], 1).unwrap_err();
+    /// let text = "error 18 of the schema number: there is no such schema";
+    /// assert_eq!(error.describe().to_string(), text);
+    /// ```
+    pub const fn describe(self) -> Described {
+        Described { error: self }
+    }
+}
+
+impl fmt::Display for Described {
+    fn fmt(&self, f: &mut fmt::Formatter) -> fmt::Result {
+        let Error {
+            kind,
+            offset,
+            input,
+        } = self.error;
+        let (code, text) = (kind.code(), kind.text());
+        let of = input.text();
+        match kind {
+            ErrorKind::Capacity => write!(
+                f,
+                "error {code} of {of}: it needs room for {offset} {}",
+                input.room()
+            ),
+            ErrorKind::PlanMismatch | ErrorKind::TooLarge => {
+                write!(f, "error {code} of {of}: {text}")
+            }
+            ErrorKind::Missing => write!(f, "error {code} of {of}: {}", input.missing()),
+            ErrorKind::Entry => write!(f, "error {code} of {of}, column {offset}: {text}"),
+            _ => write!(f, "error {code} at {offset} of {of}: {text}"),
+        }
+    }
+}
+
 impl ErrorKind {
-    /// The kind in words.
-    const fn text(self) -> &'static str {
+    /// The kind in the words of `adtg_text.h`.
+    pub const fn text(self) -> &'static str {
         match self {
             ErrorKind::Short => "the input ends too soon",
             ErrorKind::Constant => "a constant byte differs",
@@ -251,38 +313,9 @@ impl ErrorKind {
 }
 
 impl Input {
-    /// What error 16 counts if it is about this input.
-    const fn room(self) -> &'static str {
+    /// The input in the words of `adtg_text.h`.
+    pub const fn text(self) -> &'static str {
         match self {
-            Input::Table => "rows, or numbers of a schema file",
-            _ => "bytes",
-        }
-    }
-
-    /// What is missing where an error of the kind `Missing` names this input.
-    const fn missing(self) -> &'static str {
-        match self {
-            Input::SchemaNumber => "there is no such schema",
-            Input::Column => "there is no such column",
-            Input::Table => "the table has fewer rows",
-            Input::Entries => "they are not one for each column, or one lies outside the values",
-            Input::Place => "there is no such place",
-            Input::ChildId => "no schema has this child id",
-            Input::Reader => "no call makes such a reader",
-            _ => ErrorKind::Missing.text(),
-        }
-    }
-}
-
-impl fmt::Display for ErrorKind {
-    fn fmt(&self, f: &mut fmt::Formatter) -> fmt::Result {
-        f.write_str(self.text())
-    }
-}
-
-impl fmt::Display for Input {
-    fn fmt(&self, f: &mut fmt::Formatter) -> fmt::Result {
-        f.write_str(match self {
             Input::Single => "the input",
             Input::Schema => "the schema file",
             Input::SchemaNumber => "the schema number",
@@ -305,7 +338,29 @@ impl fmt::Display for Input {
             Input::Async => "the async option",
             Input::ChildId => "the child id",
             Input::Reader => "the reader",
-        })
+        }
+    }
+
+    /// What error 16 counts if it is about this input.
+    const fn room(self) -> &'static str {
+        match self {
+            Input::Table => "rows, or numbers of a schema file",
+            _ => "bytes",
+        }
+    }
+
+    /// What is missing where an error of the kind `Missing` names this input.
+    const fn missing(self) -> &'static str {
+        match self {
+            Input::SchemaNumber => "there is no such schema",
+            Input::Column => "there is no such column",
+            Input::Table => "the table has fewer rows",
+            Input::Entries => "they are not one for each column, or one lies outside the values",
+            Input::Place => "there is no such place",
+            Input::ChildId => "no schema has this child id",
+            Input::Reader => "no call makes such a reader",
+            _ => ErrorKind::Missing.text(),
+        }
     }
 }
 
@@ -330,12 +385,26 @@ mod tests {
 
     #[test]
     fn an_error_says_all_that_it_is() {
+        let error = Error {
+            kind: ErrorKind::Length,
+            offset: 5,
+            input: Input::Row,
+        };
+        assert_eq!(
+            error.to_string(),
+            "error 14 at 5 of the row: a length that is not allowed"
+        );
+    }
+
+    #[test]
+    fn an_error_says_what_its_offset_counts() {
         let text = |kind, offset, input| {
             Error {
                 kind,
                 offset,
                 input,
             }
+            .describe()
             .to_string()
         };
         assert_eq!(

@@ -37,8 +37,15 @@
 //!     assert_eq!(field, Some(&[5, 0, 0, 0][..]));
 //! }
 //!
-//! // Look up the same column of all parent rows.
-//! for found in plan.find_column(&section, rows, Owner::Parents, 0) {
+//! // The same column of all parent rows in one call.
+//! let mut spans = [0; 16];
+//! let spans = plan.find_column(&section, rows.numbers(), Owner::Parents, 0, &mut spans)?;
+//! for span in spans.iter() {
+//!     assert_eq!(span.part(&section), Some(&[5, 0, 0, 0][..]));
+//! }
+//!
+//! // The same with the row of each, as an iterator that needs no room for all rows.
+//! for found in plan.column_spans(&section, rows, Owner::Parents, 0) {
 //!     let (row, span) = found?;
 //!     assert_eq!((row, span.part(&section)), (0, Some(&[5, 0, 0, 0][..])));
 //! }
@@ -53,7 +60,8 @@
 //! // An error says what is wrong, where and in which input.
 //! let error = plan.look_up(&[5, 0], 0).unwrap_err();
 //! assert_eq!((error.kind, error.offset), (ErrorKind::Short, 2));
-//! assert_eq!(error.to_string(), "error 1 at 2 of the row: the input ends too soon");
+//! let text = "error 1 at 2 of the row: the input ends too soon";
+//! assert_eq!(error.describe().to_string(), text);
 //! # Ok(())
 //! # }
 //! ```
@@ -68,6 +76,7 @@
 //! | [`arrival`] | row sections that arrive in fragments |
 //! | [`plan`], [`find`] | plans, and look-ups through them |
 //! | [`batch`] | one column of all rows of one owner, through a plan |
+//! | [`page`] | the same page by page, or as an iterator |
 //! | [`mod@version`] | the version of the archive, and the layout of its plans |
 //! | [`raw`] | the calls and their replies as they are |
 
@@ -79,6 +88,7 @@ pub mod batch;
 pub mod error;
 pub mod find;
 pub mod head;
+pub mod page;
 pub mod plan;
 pub mod raw;
 pub mod row;
@@ -89,12 +99,13 @@ pub mod version;
 pub mod write;
 
 pub use arrival::{Progress, Reader};
-pub use batch::{ColumnSpans, Owner, Page, Span, Spans, SPAN_NUMBERS};
-pub use error::{Error, ErrorKind, Input};
+pub use batch::{Owner, Span, Spans, SPAN_NUMBERS};
+pub use error::{Described, Error, ErrorKind, Input};
 pub use find::{Found, RowHandle};
 pub use head::{
     read_header, read_options, write_header, write_header_short, write_options, Header, Options,
 };
+pub use page::{ColumnSpans, Page, PageSpans, PAGE_SPAN_NUMBERS};
 pub use plan::Plan;
 pub use row::{field_count, look_up, row_end, Answer};
 pub use schema::{

@@ -1,5 +1,6 @@
 //! Column plans. Make a plan once from a schema, keep it, and check it against the schema before use.
-//! Look-ups through a plan are in [`find`](crate::find) and [`batch`](crate::batch).
+//! Look-ups through a plan are in [`find`](crate::find), [`batch`](crate::batch) and
+//! [`page`](crate::page).
 
 use crate::raw::{self, size, Numbers, Value};
 use crate::{version, Error};
@@ -19,9 +20,7 @@ impl Plan {
     pub const NUMBERS: usize = 131;
 
     /// The plan of no columns.
-    pub const BLANK: Plan = Plan {
-        numbers: [0; Plan::NUMBERS],
-    };
+    pub const BLANK: Plan = Plan::from_numbers([0; Plan::NUMBERS]);
 
     const FIXED: u64 = 1;
     const NOT_FIXED: u64 = 2;
@@ -51,9 +50,14 @@ impl Plan {
 
     /// The plan of numbers that you kept. [`check`](Plan::check) it against the schema before use.
     /// Any numbers are allowed: a look-up still answers, and a field that it finds lies in the row.
-    pub fn from_numbers(numbers: [u64; Plan::NUMBERS]) -> Plan {
-        version::check();
+    pub const fn from_numbers(numbers: [u64; Plan::NUMBERS]) -> Plan {
         Plan { numbers }
+    }
+
+    /// The same, and the archive must be of this crate's version.
+    pub fn from_kept(numbers: [u64; Plan::NUMBERS]) -> Plan {
+        version::check();
+        Plan::from_numbers(numbers)
     }
 }
 

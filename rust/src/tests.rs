@@ -89,6 +89,14 @@ fn every_call_writes_all_sixteen_numbers() {
     filled(&raw::fixed_place(&plan, 3), 18);
     filled(&raw::open_row(&plan, &ROW), 0);
     filled(&raw::open_row(&plan, &[]), 1);
+    let numbers = plan.numbers();
+    let find = |row: &[u8], rows: &[u32], column, spans: &mut [u32]| {
+        raw::find_column(numbers, row, rows, usize::MAX, column, spans)
+    };
+    filled(&find(&ROW, &[1, 0, 0, 0], 1, table), 0);
+    filled(&find(&ROW, &[1, 0, 11, 0], 1, table), 1);
+    filled(&find(&ROW, &[1, 0, 0, 0], 3, table), 18);
+    filled(&find(&ROW, &[1, 0, 0, 0], 1, &mut []), 16);
     filled(&raw::version(), 0);
 }
 

@@ -135,7 +135,29 @@ fn the_batch_finds_the_five_fields() {
     let mut table = [0; 4];
     let rows = list_section(&SCHEMA, section(), &mut table).unwrap();
     for (column, (bytes, start, _)) in FIELDS.iter().enumerate() {
-        let found = plan.find_column(section(), rows, Owner::Parents, column);
+        let mut numbers = [0; 2];
+        let spans = plan.find_column(
+            section(),
+            rows.numbers(),
+            Owner::Parents,
+            column,
+            &mut numbers,
+        );
+        // In the section the row's token stands before the row.
+        let (start, end) = (1 + start, 1 + start + bytes.len());
+        let spans: Vec<Span> = spans.unwrap().iter().collect();
+        assert_eq!(spans, [Span::Field { start, end }]);
+        assert_eq!(spans[0].part(section()), Some(*bytes));
+    }
+}
+
+#[test]
+fn the_iterator_finds_the_five_fields() {
+    let plan = Plan::make(&SCHEMA, 0).unwrap();
+    let mut table = [0; 4];
+    let rows = list_section(&SCHEMA, section(), &mut table).unwrap();
+    for (column, (bytes, start, _)) in FIELDS.iter().enumerate() {
+        let found = plan.column_spans(section(), rows, Owner::Parents, column);
         // In the section the row's token stands before the row.
         let (start, end) = (1 + start, 1 + start + bytes.len());
         let found: Vec<(usize, Span)> = found.map(Result::unwrap).collect();

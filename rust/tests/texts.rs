@@ -10,13 +10,14 @@ fn text(kind: ErrorKind, offset: usize, input: Input) -> String {
         offset,
         input,
     }
+    .describe()
     .to_string()
 }
 
 #[test]
 fn errors_say_what_c_says() {
-    let kinds = ErrorKind::ALL.map(|kind| format!("code {}: {kind}", kind.code()));
-    let inputs = Input::ALL.map(|input| format!("input {}: {input}", input.code()));
+    let kinds = ErrorKind::ALL.map(|kind| format!("code {}: {}", kind.code(), kind.text()));
+    let inputs = Input::ALL.map(|input| format!("input {}: {}", input.code(), input.text()));
     let errors = ErrorKind::ALL.map(|kind| text(kind, 5, Input::Single));
     let missing = Input::ALL.map(|input| text(ErrorKind::Missing, 0, input));
     let room = [Input::Table, Input::Output].map(|input| text(ErrorKind::Capacity, 8, input));

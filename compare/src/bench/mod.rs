@@ -3,6 +3,7 @@
 pub mod batches;
 pub mod feeds;
 pub mod look_ups;
+pub mod pages;
 pub mod sections;
 
 /// The middle value of an odd number of them.

@@ -9,6 +9,7 @@ pub mod error;
 pub mod header;
 pub mod numbers;
 pub mod options;
+pub mod page;
 pub mod plan;
 pub mod row;
 pub mod schema;

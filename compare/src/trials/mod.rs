@@ -6,6 +6,7 @@ mod batches;
 mod forged;
 mod header;
 mod options;
+mod pages;
 mod plans;
 mod row_data;
 mod row_writers;
@@ -58,7 +59,7 @@ const SHORT: [Trial; 15] = [
 ];
 
 /// Trials that ask one row, or the rows of one section, for all columns, once in `BETWEEN_ROWS`.
-const ROWS: [Trial; 8] = [
+const ROWS: [Trial; 10] = [
     rows::look_up_case,
     rows::look_update_case,
     rows::current_case,
@@ -66,6 +67,8 @@ const ROWS: [Trial; 8] = [
     forged::look_up_case,
     batches::find_case,
     batches::forged_case,
+    pages::find_case,
+    pages::forged_case,
     forged::reader_case,
 ];
 const BETWEEN_ROWS: usize = 8;
@@ -160,6 +163,7 @@ fn run_oversized(run: &mut Run) {
     row_writers::oversized(&bytes, run);
     sections::oversized(&bytes, run);
     batches::oversized(&bytes, run);
+    pages::oversized(&bytes, run);
     arrivals::oversized(&bytes, run);
 }
 

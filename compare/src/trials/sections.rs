@@ -62,8 +62,9 @@ pub(super) const LONGEST: usize = 32_767;
 /// How many sections are made under one file.
 const SECTIONS: usize = 4;
 
-/// About how many rows a long section has, or more.
-pub(super) const MANY: usize = 256;
+/// How many spans the archive holds on its way over a batch; long sections have about as many
+/// rows, or more.
+pub(super) const HELD: usize = 256;
 
 /// Sections over this many bytes have room for the sizes of more elements.
 const NOTED: usize = 16_384;
@@ -105,10 +106,10 @@ pub(super) fn sections(random: &mut Random) -> Vec<(Vec<u8>, Vec<u8>)> {
     (0..SECTIONS).map(one).collect()
 }
 
-/// A section of about `MANY` rows, at times damaged.
+/// A section of about as many rows as a batch holds spans, at times damaged.
 fn long_section(random: &mut Random, sound: &[u8], schemas: &SchemaFile) -> Vec<u8> {
     let mut section = Section::default();
-    for _ in 0..random.between(MANY - 2, MANY + 3) {
+    for _ in 0..random.between(HELD - 2, HELD + 3) {
         let number = random.below(schemas.schema_count());
         section.add_row(random, sound, schemas, number);
     }
@@ -119,10 +120,10 @@ fn long_section(random: &mut Random, sound: &[u8], schemas: &SchemaFile) -> Vec<
     section
 }
 
-/// A section of over `NOTED` bytes and over `MANY` rows, at times damaged.
+/// A section of over `NOTED` bytes, with more rows than a batch holds spans, at times damaged.
 fn noted_section(random: &mut Random, sound: &[u8], schemas: &SchemaFile) -> Vec<u8> {
     let mut section = Section::default();
-    let least = random.between(MANY + 1, 2 * MANY);
+    let least = random.between(HELD + 1, 2 * HELD);
     let mut rows = 0;
     while rows < least || section.size() <= NOTED {
         let number = random.below(schemas.schema_count());
@@ -151,7 +152,7 @@ fn sizes_section(random: &mut Random, longest: usize) -> Vec<u8> {
         bytes.resize(bytes.len() + length, 0x2A);
     };
     let mut rows = 0;
-    while rows <= MANY || bytes.len() <= NOTED {
+    while rows <= HELD || bytes.len() <= NOTED {
         match rows % 4 {
             0 => {
                 bytes.push(PARENT);
@@ -592,7 +593,7 @@ mod tests {
             let section = sizes_section(&mut random, longest);
             let mut table = vec![0; ROW_NUMBERS * section.len()];
             let rows = list_section(&sizes_file(), &section, &mut table).expect("it is sound");
-            assert!(rows > MANY && section.len() > NOTED);
+            assert!(rows > HELD && section.len() > NOTED);
             let starts = table.chunks(ROW_NUMBERS).take(rows).map(|row| row[2]);
             let gaps: Vec<u32> = starts
                 .clone()

@@ -3,7 +3,7 @@
 use Rattle.wire.specs.Errors.{input_number}
 use Rattle.wire.specs.Read.{Read, ok, bad}
 use Rattle.batch.specs.Pages.{Counted}
-use Rattle.adtg_c.specs.declared.batches.PageAnswer.{PageAnswer}
+use Rattle.adtg_c.specs.declared.pages.PageAnswer.{PageAnswer}
 
 abbrev pub page_answer : Read Counted → PageAnswer
 page_answer (ok c) = record { code = 0; first = c.next; second = 0; spans = c.spans }

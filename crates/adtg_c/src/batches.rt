@@ -1,59 +1,38 @@
-// Batches: a page of one column of the rows of one owner, by a plan whose numbers are lent.
+// Batches: one column of every row of one table, by a plan whose numbers are lent.
 ghost use Rattle.std.specs.Prelude.{◌≡◌, length};
 ghost use Rattle.plan.specs.Plans.{lent};
-ghost use Rattle.batch.specs.Pages.{page_found, page_after, page_count, told_page};
-ghost use Rattle.adtg_c.specs.PageAnswers.{page_answer};
+ghost use Rattle.batch.specs.Spans.{spans_found, spans_after, span_count, told_spans};
+ghost use Rattle.answers.specs.Answers.{Answered, size_values};
 
-use batch::find::{PageRead, find_page};
+use answers::answer::{refuse, tell};
+use batch::find::{SpansRead, find_lent};
 
-// What a page answers: 0, the row that comes next and how many spans there are; or the error's code, offset and input.
-#[repr(C)]
-#[derive(Clone, Copy)]
-pub struct PageAnswer {
-    pub code: u32,
-    pub first: u64,
-    pub second: u64,
-    pub spans: u64,
-}
-
-// The answer of a page, as a value.
-fn answer_page(page: PageRead) -> PageAnswer
-    ensures { result ≡ page_answer (told_page page) }
+// The answer of a batch: how many spans it found.
+fn answer_spans(spans: SpansRead, out: &mut [u64; 16]) -> u32
+    ensures { Answered size_values (told_spans spans) result out.new }
 {
-    match page {
-        PageRead::Refused(e) => {
-            let kind = e.kind;
-            let input = e.input;
-            PageAnswer {
-                code: kind.code(),
-                first: e.offset as u64,
-                second: input.number(),
-                spans: 0,
-            }
+    match spans {
+        SpansRead::Refused(e) => refuse(e, out),
+        SpansRead::Spans(n) => {
+            *out = tell(n, 0, 0, 0, 0);
+            0
         }
-        PageRead::Page { spans, next } => PageAnswer {
-            code: 0,
-            first: next as u64,
-            second: 0,
-            spans: spans as u64,
-        },
     }
 }
 
-// Finds a column in the rows of one owner from row `from` on, into `spans`, three numbers a row.
+// Finds a column in every row of one owner, into `spans`, two numbers a row: how many rows.
 #[unsafe(no_mangle)]
-pub extern "C" fn adtg_find_page(
+pub extern "C" fn adtg_find_column(
     plan: &[usize; 131],
     section: &[u8],
-    table: &[u32],
-    rows: usize,
-    from: usize,
+    rows: &[u32],
     owner: usize,
     column: usize,
     spans: &mut [u32],
-) -> PageAnswer
-    ensures answers { result ≡ page_answer (page_count (page_found (lent plan.now) section.now table.now rows from owner column (length spans.old))) }
-    ensures leaves { spans.new ≡ page_after (page_found (lent plan.now) section.now table.now rows from owner column (length spans.old)) spans.old }
+    out: &mut [u64; 16],
+) -> u32
+    ensures answers { Answered size_values (span_count (spans_found (lent plan.now) section.now rows.now owner column (length spans.old))) result out.new }
+    ensures leaves { spans.new ≡ spans_after (spans_found (lent plan.now) section.now rows.now owner column (length spans.old)) spans.old }
 {
-    answer_page(find_page(plan, section, table, rows, from, owner, column, spans))
+    answer_spans(find_lent(plan, section, rows, owner, column, spans), out)
 }

@@ -5,6 +5,7 @@
 
 pub mod batches;
 pub mod head;
+pub mod pages;
 pub mod plans;
 pub mod readers;
 pub mod rows;

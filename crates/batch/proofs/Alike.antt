@@ -1,31 +1,24 @@
--- A batch asks nothing of its look-up but the answers: two that answer alike on every part give the same pages.
+-- A batch asks nothing of its look-up but the answers: two that answer alike on every part give the same batch.
 -- Assumes nothing.
-use Prim.Native.Nat.{ℕ, zero, suc}
+use Prim.Native.Nat.{ℕ}
 use mathlib.Core.Path.{◌≡◌, refl}
 use mathlib.Core.List.{List, [], ◌∷◌}
 use lib.ListN.{drop}
 use Rattle.wire.specs.Read.{Bytes, Read}
 use Rattle.walk.specs.Rows.{Answer}
-use Rattle.batch.specs.Spans.{start_in, span_in}
-use Rattle.batch.specs.Pages.{Numbered, owned_in, page_of, first_in, room_in, page_by}
+use Rattle.grammar.specs.Grammar.{Row}
+use Rattle.batch.specs.Spans.{rows_of, start_in, span_in, spans_in, spans_by}
 
 module _ (look other : Bytes → Read Answer) (same : (part : Bytes) → look part ≡ other part) (s : Bytes) where
   pub span_alike : (start : ℕ) → span_in look s start ≡ span_in other s start
   unfolding span_in
   span_alike start = rw (same (drop (start_in s start) s)) refl
 
-  page_alike : (rows room : ℕ) (os : List Numbered) → page_of look s rows room os ≡ page_of other s rows room os
-  unfolding page_of
-  page_alike rows room [] = refl
-  page_alike rows zero (o ∷ os) = refl
-  page_alike rows (suc room) (o ∷ os) = rw (span_alike o.row.original, page_alike rows room os) refl
+  spans_alike : (owner : ℕ) (rs : List Row) → spans_in look s owner rs ≡ spans_in other s owner rs
+  unfolding spans_in
+  spans_alike owner [] = refl
+  spans_alike owner (r ∷ rs) = rw (span_alike r.original, spans_alike owner rs) refl
 
-  first_alike : (room : ℕ) (os : List Numbered) → first_in look s room os ≡ first_in other s room os
-  unfolding first_in
-  first_alike room [] = refl
-  first_alike zero (o ∷ os) = refl
-  first_alike (suc room) (o ∷ os) = rw (span_alike o.row.original) refl
-
-  pub batch_alike : (table : List ℕ) (rows from owner room : ℕ) → page_by look s table rows from owner room ≡ page_by other s table rows from owner room
-  unfolding page_by
-  batch_alike table rows from owner room = rw (first_alike (room_in room) (owned_in table rows from owner), page_alike rows (room_in room) (owned_in table rows from owner)) refl
+  pub batch_alike : (rows : List ℕ) (owner room : ℕ) → spans_by look s rows owner room ≡ spans_by other s rows owner room
+  unfolding spans_by
+  batch_alike rows owner room = rw (spans_alike owner (rows_of rows)) refl

@@ -1,7 +1,12 @@
 pub mod Places
 pub mod Parts
 pub mod Laid
-pub mod Rows
 pub mod Pass
 pub mod Finding
 pub mod Alike
+pub mod Owners
+pub mod Rows
+pub mod PageLaid
+pub mod PagePass
+pub mod PageFinding
+pub mod PageAlike

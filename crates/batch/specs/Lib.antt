@@ -2,3 +2,4 @@ pub mod Spans
 pub mod Pages
 -- Inner.
 pub mod Scan
+pub mod PageScan

@@ -7,8 +7,8 @@ use Rattle.wire.specs.Output.{put}
 use Rattle.walk.specs.Rows.{Answer}
 use Rattle.plan.specs.declared.plan.Plan.{Plan}
 use Rattle.grammar.specs.Grammar.{Row}
-use Rattle.batch.specs.declared.find.PageRead.{PageRead}
-use Rattle.batch.specs.declared.find.PageRead.TheVariants as read
+use Rattle.batch.specs.declared.page.PageRead.{PageRead}
+use Rattle.batch.specs.declared.page.PageRead.TheVariants as read
 use Rattle.batch.specs.Spans.{rows_from, owner_of, Span, span_in, planned}
 
 -- A row with its number in the table.

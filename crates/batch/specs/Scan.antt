@@ -1,24 +1,43 @@
--- Inner: what the contracts of inner functions cite: one row's answer, and a page of rows that the table has.
+-- Inner: what the contracts of inner functions cite: one row's answer, and one pass over the rows.
 -- Assumes nothing.
-use Rattle.std.specs.Prelude.{ℕ, List}
-use Rattle.wire.specs.Read.{Bytes, Read, ok, ◌>>=◌, refused}
-use Rattle.walk.specs.Rows.{Answer}
+use Rattle.std.specs.Prelude.{ℕ, ◌+◌, ◌*◌, ◌≡◌, List, [], ◌∷◌, length}
+use Rattle.wire.specs.Read.{Read, ok, bad, refused}
+use Rattle.wire.specs.Output.{put}
 use Rattle.batch.specs.declared.find.SpanRead.{SpanRead}
 use Rattle.batch.specs.declared.find.SpanRead.TheVariants as one
-use Rattle.batch.specs.Spans.{Span, span}
-use Rattle.batch.specs.Pages.{Numbered, owned_in, Page, page_of, first_in, room_in}
+use Rattle.batch.specs.declared.find.SpansRead.{SpansRead}
+use Rattle.batch.specs.declared.find.SpansRead.TheVariants as read
+use Rattle.batch.specs.Spans.{Span, span, span_numbers}
 
 -- what a `SpanRead` says
 abbrev pub told_span : SpanRead → Read Span
 told_span (one.At start end) = ok (span start end)
 told_span (one.Refused e) = refused e
 
--- the first row's error, or the page
-unfoldable pub page_from : (look : Bytes → Read Answer) → Bytes → (rows room : ℕ) → List Numbered → Read Page
-page_from look s rows room os = do
-  _ ← first_in look s room os
-  ok (page_of look s rows room os)
+-- numbers with spans laid into them, the first as span i; a span that does not fit leaves them
+unfoldable pub laid_from : ℕ → List Span → List ℕ → List ℕ
+laid_from i [] numbers = numbers
+laid_from i (x ∷ xs) numbers = laid_from (i + 1) xs (put numbers (2 * i) (span_numbers x))
 
--- the same of the rows of one owner in a table, into room for so many numbers
-abbrev pub page_scanned : (look : Bytes → Read Answer) → Bytes → (table : List ℕ) → (rows from owner room : ℕ) → Read Page
-page_scanned look s table rows from owner room = page_from look s rows (room_in room) (owned_in table rows from owner)
+-- How many spans a pass has found, and the numbers with those laid in that they have room for.
+pub record Pass : Type 0 where
+  pub count : ℕ
+  pub numbers : List ℕ
+
+abbrev pub pass : ℕ → List ℕ → Pass
+pass n l = record { count = n; numbers = l }
+
+-- a pass that has come so far, with these spans ahead
+unfoldable pub passed : Pass → Read (List Span) → Read Pass
+passed w (ok xs) = ok (pass (w.count + length xs) (laid_from w.count xs w.numbers))
+passed w (bad code offset about) = bad code offset about
+
+-- what a pass answers, with the numbers that it leaves
+abbrev pub told_pass : SpansRead → List ℕ → Read Pass
+told_pass (read.Spans n) exit = ok (pass n exit)
+told_pass (read.Refused e) exit = refused e
+
+-- What a pass over rows promises: the spans or the first error, and numbers of the same length.
+pub record Scanned (xs : Read (List Span)) (entry exit : List ℕ) (answer : SpansRead) : Type 0 where
+  pub told : told_pass answer exit ≡ passed (pass 0 entry) xs
+  pub long : length exit ≡ length entry

@@ -1,14 +1,17 @@
--- Promise: one column of a row that stands in a section: whose the row is, and where the field stands.
+-- Promise: one column of many rows: where its field stands in a section, for each row of one table.
 -- Assumes nothing.
-use Rattle.std.specs.Prelude.{ℕ, zero, suc, ◌+◌, ◌*◌, min, List, [], ◌∷◌, Bool, length, get_or, drop, eqb}
+use Rattle.std.specs.Prelude.{ℕ, zero, suc, ◌+◌, ◌*◌, ◌/◌, min, ◌≡◌, List, [], ◌∷◌, ◌++◌, Bool, length, get_or, drop, leb, eqb}
 use Rattle.wire.specs.declared.error.Input.{Input}
 use Rattle.wire.specs.declared.error.Input.TheVariants as input
 use Rattle.wire.specs.Errors.{input_number}
-use Rattle.wire.specs.Read.{Bytes, Read, ok, bad, ◌>>=◌, pick}
+use Rattle.wire.specs.Read.{Bytes, Read, ok, bad, ◌>>=◌, pick, check, about, sized, refused}
+use Rattle.wire.specs.Output.{put}
 use Rattle.walk.specs.Rows.{Answer, field, null, chapter}
 use Rattle.plan.specs.declared.plan.Plan.{Plan}
 use Rattle.jump.specs.Jumps.{planned_row}
 use Rattle.grammar.specs.Grammar.{Row, entry}
+use Rattle.batch.specs.declared.find.SpansRead.{SpansRead}
+use Rattle.batch.specs.declared.find.SpansRead.TheVariants as read
 
 -- Row i of a table: four numbers.
 abbrev pub row_at : List ℕ → ℕ → Row
@@ -18,6 +21,10 @@ row_at table i = entry (get_or table (4 * i) 0) (get_or table (4 * i + 1) 0) (ge
 unfoldable pub rows_from : List ℕ → (n i : ℕ) → List Row
 rows_from table zero i = []
 rows_from table (suc n) i = row_at table i ∷ rows_from table n (suc i)
+
+-- the rows of a table; numbers at its end that make no row are ignored
+abbrev pub rows_of : List ℕ → List Row
+rows_of table = rows_from table (length table / 4) 0
 
 -- the owner of the parent's rows, which no child id is
 abbrev pub parents : ℕ
@@ -67,6 +74,57 @@ span_in look s start = do
   a ← moved (start_in s start) (look (drop (start_in s start) s))
   ok (span_of (start_in s start) a)
 
+-- the spans of the rows of one owner, in order; the first error ends them
+unfoldable pub spans_in : (look : Bytes → Read Answer) → Bytes → (owner : ℕ) → List Row → Read (List Span)
+spans_in look s owner [] = ok []
+spans_in look s owner (r ∷ rs) =
+    pick (eqb (owner_of r) owner)
+    (do
+      x ← span_in look s r.original
+      xs ← spans_in look s owner rs
+      ok (x ∷ xs))
+    (spans_in look s owner rs)
+
+-- By any look-up, into room for so many numbers: the section's size (19), the rows' errors, and last the room (16, with the spans needed).
+unfoldable pub spans_by : (look : Bytes → Read Answer) → Bytes → (rows : List ℕ) → (owner room : ℕ) → Read (List Span)
+spans_by look s rows owner room = do
+  _ ← about input.Section (sized s)
+  xs ← spans_in look s owner (rows_of rows)
+  _ ← about input.Output (check (leb (2 * length xs) room) 16 (length xs))
+  ok xs
+
 -- a column's look-up through a plan
 abbrev pub planned : Plan → (column : ℕ) → Bytes → Read Answer
 planned p column part = planned_row p part column
+
+-- Through a plan.
+abbrev pub spans_found : Plan → Bytes → (rows : List ℕ) → (owner column room : ℕ) → Read (List Span)
+spans_found p s rows owner column room = spans_by (planned p column) s rows owner room
+
+-- the numbers of spans, one after the other
+abbrev pub span_numbers : Span → List ℕ
+span_numbers x = x.start ∷ x.end ∷ []
+
+unfoldable pub spans_numbers : List Span → List ℕ
+spans_numbers [] = []
+spans_numbers (x ∷ xs) = span_numbers x ++ spans_numbers xs
+
+-- the caller's numbers afterwards: the spans and then what they were; after an error all that they were
+unfoldable pub spans_after : Read (List Span) → List ℕ → List ℕ
+spans_after (ok xs) numbers = put numbers 0 (spans_numbers xs)
+spans_after (bad code offset about) numbers = numbers
+
+-- how many spans
+abbrev pub span_count : Read (List Span) → Read ℕ
+span_count (ok xs) = ok (length xs)
+span_count (bad code offset about) = bad code offset about
+
+-- what a `SpansRead` says
+abbrev pub told_spans : SpansRead → Read ℕ
+told_spans (read.Spans n) = ok n
+told_spans (read.Refused e) = refused e
+
+-- What a batch promises: how many spans or the error, and what the caller's numbers then are.
+pub record Batched (xs : Read (List Span)) (entry exit : List ℕ) (answer : SpansRead) : Type 0 where
+  pub answers : told_spans answer ≡ span_count xs
+  pub leaves : exit ≡ spans_after xs entry

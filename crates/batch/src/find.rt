@@ -1,14 +1,15 @@
-// A page of a batch: one column in the rows of one owner, from one row of a table on.
-ghost use Rattle.std.specs.Prelude.{◌≡◌, ◌+◌, ◌*◌, ◌≤◌, length, eqb};
+// The batch call: a pass over a table of rows that counts, and for many rows one that fills the caller's numbers.
+ghost use Rattle.std.specs.Prelude.{◌≡◌, ◌+◌, ◌*◌, ◌≤◌, length};
 ghost use Rattle.wire.specs.Output.{put};
 ghost use Rattle.wire.specs.Read.{refused};
 ghost use Rattle.plan.specs.Plans.{lent};
-ghost use Rattle.batch.specs.Spans.{row_at, owner_of, span, moved, span_in, planned};
-ghost use Rattle.batch.specs.Pages.{located, located_numbers, Paged, page_found};
-ghost use Rattle.batch.specs.Scan.{told_span, page_scanned};
+ghost use Rattle.batch.specs.Spans.{row_at, rows_of, owner_of, span, span_numbers, moved, span_in, spans_in, planned, spans_found, Batched};
+ghost use Rattle.batch.specs.Scan.{told_span, Scanned};
 
 use jump::look::look_lent;
+use plan::plan::Plan;
 use row::rows::LookUp;
+use wire::bytes::copy_numbers;
 use wire::error::{Error, ErrorKind, Input};
 use wire::{LIMIT, lesser};
 
@@ -20,39 +21,36 @@ pub const NULL_MARK: u32 = 4_294_967_295;
 
 pub const CHAPTER_MARK: u32 = 4_294_967_294;
 
-// How many spans are found and which row comes next, or why there is none.
+// How many spans are found, or why none is.
 #[derive(Clone, Copy)]
-pub enum PageRead {
-    Page { spans: usize, next: usize },
+pub enum SpansRead {
+    Spans(usize),
     Refused(Error),
 }
 
 // The span of one row: two positions in the section, or two marks.
 #[derive(Clone, Copy)]
-enum SpanRead {
+pub(crate) enum SpanRead {
     At { start: u32, end: u32 },
     Refused(Error),
 }
 
 // A number of a row table, as a size.
-fn wide(n: u32) -> usize
+pub(crate) fn wide(n: u32) -> usize
     ensures { result ≡ n }
 {
     n as usize
 }
 
-// Whether row `i` of a table is the owner's. Of a child's rows the id is looked at first: rows of many owners are told apart by one test.
-fn is_owned(table: &[u32], i: usize, owner: usize) -> bool
-    requires { 4 * i + 4 ≤ length table.now }
-    ensures { result ≡ eqb (owner_of (row_at table.now i)) owner }
+// Whose row `i` of a table is.
+fn owner_of(rows: &[u32], i: usize) -> usize
+    requires { 4 * i + 4 ≤ length rows.now }
+    ensures { result ≡ owner_of (row_at rows.now i) }
 {
-    if owner == PARENTS {
-        return table[4 * i] == 1;
+    if rows[4 * i] == 1 {
+        return PARENTS;
     }
-    if wide(table[4 * i + 1]) != owner {
-        return false;
-    }
-    table[4 * i] != 1
+    wide(rows[4 * i + 1])
 }
 
 // An error about the part of a section from `from` on, as one about the section; any other stays.
@@ -74,7 +72,7 @@ fn refuse(from: usize, e: Error) -> SpanRead
 }
 
 // The span of a column in the row whose data start at `start`.
-fn span_at(plan: &[usize; 131], section: &[u8], start: usize, column: usize) -> SpanRead
+pub(crate) fn span_at(plan: &[usize; 131], section: &[u8], start: usize, column: usize) -> SpanRead
     requires { length section.now ≤ 16777216 }
     ensures { told_span result ≡ span_in (planned (lent plan.now) column) section.now start }
 {
@@ -96,54 +94,42 @@ fn span_at(plan: &[usize; 131], section: &[u8], start: usize, column: usize) -> 
     }
 }
 
-// Writes span `i` and the number of its row into the caller's numbers.
-fn put_span(spans: &mut [u32], i: usize, row: u32, start: u32, end: u32)
-    requires { 3 * i + 3 ≤ length spans.old }
-    ensures { spans.new ≡ put spans.old (3 * i) (located_numbers (located row (span start end))) }
+// Writes span `i` into the caller's numbers, where they have room for it.
+fn put_span(spans: &mut [u32], i: usize, start: u32, end: u32)
+    ensures { spans.new ≡ put spans.old (2 * i) (span_numbers (span start end)) }
 {
-    let at = 3 * i;
-    spans[at] = row;
-    spans[at + 1] = start;
-    spans[at + 2] = end;
+    if spans.len() / 2 <= i {
+        return;
+    }
+    let at = 2 * i;
+    spans[at] = start;
+    spans[at + 1] = end;
 }
 
-// The page from row `from` on, of rows that the table has. A row that is refused ends the page; it refuses the call where it is the first.
+// One pass over a table of rows: how many spans there are, or the first error. Spans that the caller's numbers have room for are
+// written into them.
 fn scan(
     plan: &[usize; 131],
     section: &[u8],
-    table: &[u32],
-    rows: usize,
-    from: usize,
+    rows: &[u32],
     owner: usize,
     column: usize,
     spans: &mut [u32],
-) -> PageRead
-    requires { (length section.now ≤ 16777216) × (4 * rows ≤ length table.now) × (rows ≤ 16777216) × (from ≤ rows) }
-    ensures { Paged (page_scanned (planned (lent plan.now) column) section.now table.now rows from owner (length spans.old)) spans.old spans.new result }
+) -> SpansRead
+    requires { length section.now ≤ 16777216 }
+    ensures { Scanned (spans_in (planned (lent plan.now) column) section.now owner (rows_of rows.now)) spans.old spans.new result }
 {
-    let room = spans.len() / 3;
-    let mut i = from;
+    let n = rows.len() / 4;
+    let mut i = 0;
     let mut count = 0;
-    while i < rows {
-        if is_owned(table, i, owner) {
-            if room <= count {
-                return PageRead::Page {
-                    spans: count,
-                    next: i,
-                };
-            }
-            match span_at(plan, section, wide(table[4 * i + 2]), column) {
+    while i < n {
+        if owner_of(rows, i) == owner {
+            match span_at(plan, section, wide(rows[4 * i + 2]), column) {
                 SpanRead::Refused(e) => {
-                    if count == 0 {
-                        return PageRead::Refused(e);
-                    }
-                    return PageRead::Page {
-                        spans: count,
-                        next: i,
-                    };
+                    return SpansRead::Refused(e);
                 }
                 SpanRead::At { start, end } => {
-                    put_span(spans, count, i as u32, start, end);
+                    put_span(spans, count, start, end);
                     count += 1;
                     i += 1;
                 }
@@ -152,34 +138,53 @@ fn scan(
             i += 1;
         }
     }
-    PageRead::Page {
-        spans: count,
-        next: rows,
-    }
+    SpansRead::Spans(count)
 }
 
-// The spans of a column in the rows of one owner, from row `from` of a table of `rows` rows on, three numbers each: the row, and the two
-// positions. As many as there is room for, up to a row that is refused; an error leaves the numbers as they were.
-pub fn find_page(
+// The spans of a column, through a plan whose numbers are lent.
+pub fn find_lent(
     plan: &[usize; 131],
     section: &[u8],
-    table: &[u32],
-    rows: usize,
-    from: usize,
+    rows: &[u32],
     owner: usize,
     column: usize,
     spans: &mut [u32],
-) -> PageRead
-    ensures { Paged (page_found (lent plan.now) section.now table.now rows from owner column (length spans.old)) spans.old spans.new result }
+) -> SpansRead
+    ensures { Batched (spans_found (lent plan.now) section.now rows.now owner column (length spans.old)) spans.old spans.new result }
 {
     if section.len() > LIMIT {
-        return PageRead::Refused(Error::at_start(ErrorKind::TooLarge, Input::Section));
+        return SpansRead::Refused(Error::at_start(ErrorKind::TooLarge, Input::Section));
     }
-    if lesser(table.len() / 4, LIMIT) < rows {
-        return PageRead::Refused(Error::at_start(ErrorKind::Missing, Input::Table));
+    let mut held = [0u32; 512];
+    match scan(plan, section, rows, owner, column, &mut held) {
+        SpansRead::Refused(e) => SpansRead::Refused(e),
+        SpansRead::Spans(n) => {
+            if spans.len() / 2 < n {
+                return SpansRead::Refused(Error {
+                    kind: ErrorKind::Capacity,
+                    offset: n,
+                    input: Input::Output,
+                });
+            }
+            if n <= 256 {
+                copy_numbers(spans, &held[..2 * n]);
+                return SpansRead::Spans(n);
+            }
+            scan(plan, section, rows, owner, column, spans)
+        }
     }
-    if rows < from {
-        return PageRead::Refused(Error::at_start(ErrorKind::Missing, Input::Place));
-    }
-    scan(plan, section, table, rows, from, owner, column, spans)
+}
+
+// The spans of a column in the rows of one owner, two numbers a row; an error leaves the numbers as they were.
+pub fn find_column(
+    plan: Plan,
+    section: &[u8],
+    rows: &[u32],
+    owner: usize,
+    column: usize,
+    spans: &mut [u32],
+) -> SpansRead
+    ensures { Batched (spans_found plan section.now rows.now owner column (length spans.old)) spans.old spans.new result }
+{
+    find_lent(&plan.numbers, section, rows, owner, column, spans)
 }

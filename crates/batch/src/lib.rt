@@ -2,3 +2,4 @@
 #![tactic(auto)]
 
 pub mod find;
+pub mod page;

@@ -24,7 +24,7 @@ use Rattle.plan.specs.declared.plan.Plan.{Plan}
 use Rattle.plan.specs.Plans.{plan_of, planned_count, fixed_place}
 use Rattle.jump.specs.Jumps.{planned_row}
 use Rattle.jump.specs.Handles.{opened_row}
-use Rattle.batch.specs.Spans.{start_in, planned}
+use Rattle.batch.specs.Spans.{start_in, rows_of, planned, spans_in, spans_found}
 use Rattle.batch.specs.Pages.{page_found}
 use Rattle.adtg.specs.InSchema.{both, in_schema}
 use Rattle.adtg.specs.Rows.{look_up_in, field_count_in, row_end_in}
@@ -37,7 +37,8 @@ use Rattle.demands.specs.FileFaults.{FileFault, schemas_in, columns_in, numbers_
 use Rattle.demands.specs.SectionFaults.{CheckFaults, ListFaults}
 use Rattle.demands.specs.HeadFaults.{HeaderFaults, OptionsFaults, HeaderWriteFaults, OptionsWriteFaults}
 use Rattle.demands.specs.WriterFaults.{WriteFaults}
-use Rattle.demands.specs.PlanFaults.{PlanFault, differs, PlanOpenFaults, PlannedFaults, PlannedRowFaults, PageFaults}
+use Rattle.demands.specs.PlanFaults.{PlanFault, differs, PlanOpenFaults, PlannedFaults, PlannedRowFaults, BatchFault, found_spans}
+use Rattle.demands.specs.PageFaults.{PageFaults}
 use Rattle.demands.specs.Calls.{WithFile, InFile, InSchema}
 use Rattle.demands.proofs.Exactly.{refuses, refuses_within, exactly_alike, exactly_within, then-grouped, then-alike, exactly_sized, never_then, never_of, never_missing, never_room}
 use Rattle.demands.proofs.FileExactly.{size_within, sizes_none, sizes_one, sizes_more, sizes_rest, exactly_in_schema, exactly_in_schema_told, counts_exactly, column_count_exactly, column_exactly, child_exactly, numbers_exactly, schema_written_exactly, file_never_size, never_child, never_schema_written}
@@ -45,7 +46,8 @@ use Rattle.demands.proofs.SectionExactly.{checked_exactly, listed_exactly, never
 use Rattle.demands.proofs.HeadExactly.{header_exactly, options_exactly, header_written_exactly, options_written_exactly, never_header, never_options, never_header_written, never_options_written}
 use Rattle.demands.proofs.RowExactly.{Foreign, foreign, exactly_row_end, exactly_look_up, exactly_field_count, exactly_update_end, exactly_look_update, exactly_current, never_opened, never_row, never_look_up, never_update, never_look_update, never_current}
 use Rattle.demands.proofs.WriterExactly.{exactly_original, exactly_update, never_written}
-use Rattle.demands.proofs.PlanExactly.{fixed_place_exactly, open_row_exactly, planned_exactly, page_exactly, check_plan_exactly, never_planned_open, never_planned, never_page}
+use Rattle.demands.proofs.PlanExactly.{fixed_place_exactly, open_row_exactly, planned_exactly, batch_exactly, check_plan_exactly, never_planned_open, never_planned, never_batch}
+use Rattle.demands.proofs.PageExactly.{page_exactly, never_page}
 
 module _ (file : Bytes) (number : ℕ) where
   -- neither a file nor a schema number gives 19
@@ -162,6 +164,24 @@ module _ (p : Plan) where
 
     pub planned_refuses : (k : ℕ) → Refuses (planned_row p row k) (lent input.Row row ∷ []) (PlannedFaults p row k)
     planned_refuses k = refuses (planned_exactly p row k) (never_planned (foreign (omega arith)) p row k (λ e. omega arith))
+
+  -- a batch, whose rows are parts of the section
+  pub batch_refuses :
+      (s : Bytes) (rows : List ℕ) (owner k room : ℕ) →
+      Refuses (spans_found p s rows owner k room) (lent input.Section s ∷ [])
+      (BatchFault (PlannedRowFaults p k) s owner (rows_of rows) then Of input.Output (NoRoom (length (found_spans (spans_in (planned p k) s owner (rows_of rows)))) (room / 2)))
+  batch_refuses s rows owner k room =
+      refuses_within (batch_exactly (planned p k) (PlannedRowFaults p k) (λ part. planned_exactly p part k) s rows owner room)
+      (λ quiet. never_then (never_batch s owner (λ r. part_within (size_within quiet) r) (rows_of rows)) (never_room (λ e. omega arith)))
+    where
+      small : (part : Bytes) → length part ≤ limit → {c o : ℕ} {i : Input} → Sizes (lent input.Row part ∷ []) c o i → ⊥
+      small part w (over z) = omega arith
+      small part w (within z p) = bad_ok (sym ((sizes_none _ _ _).1 p))
+
+      part_within : length s ≤ limit → (r : Row) → Never 19 (PlannedRowFaults p k (drop (start_in s r.original) s))
+      part_within w r =
+          let l : length (drop (start_in s r.original) s) ≤ limit = omega (arith, length-drop (start_in s r.original) s) in
+          never_then (λ o i z. small (drop (start_in s r.original) s) l z) (never_planned (foreign (omega arith)) p (drop (start_in s r.original) s) k (λ e. omega arith))
 
   -- a page, whose rows are parts of the section
   pub page_refuses :

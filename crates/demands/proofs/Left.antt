@@ -1,4 +1,4 @@
--- Demand 1: after a refusal what was lent holds what it held: an output, from its start or from a place on, the tables, the spans of a page.
+-- Demand 1: after a refusal what was lent holds what it held: an output, from its start or from a place on, the tables, the spans of a batch and of a page.
 -- Assumes nothing.
 use Prim.Native.Nat.{ℕ}
 use mathlib.Core.Path.{◌≡◌, sym, ◌∙◌}
@@ -15,7 +15,9 @@ use Rattle.grammar.specs.Grammar.{Row}
 use Rattle.section.specs.declared.read.RowsRead.{RowsRead}
 use Rattle.section.specs.Table.{table_after, told_rows}
 use Rattle.section.specs.Table as table
-use Rattle.batch.specs.declared.find.PageRead.{PageRead}
+use Rattle.batch.specs.declared.find.SpansRead.{SpansRead}
+use Rattle.batch.specs.Spans.{Span, spans_after, told_spans, Batched}
+use Rattle.batch.specs.declared.page.PageRead.{PageRead}
 use Rattle.batch.specs.Pages.{Page, page_after, told_page, Paged}
 
 pub output_left :
@@ -47,8 +49,15 @@ rows_left {rs = ok rs} w code offset i e = absurd (bad_ok (sym e ∙ w.answers))
 rows_left {rs = bad c o j} w code offset i e = w.leaves
 
 pub spans_left :
+    {xs : Read (List Span)} {entry exit : List ℕ} {answer : SpansRead} → Batched xs entry exit answer → (code offset : ℕ) (i : Input) →
+    told_spans answer ≡ bad code offset i → exit ≡ entry
+unfolding spans_after
+spans_left {xs = ok xs} w code offset i e = absurd (bad_ok (sym e ∙ w.answers))
+spans_left {xs = bad c o j} w code offset i e = w.leaves
+
+pub page_left :
     {p : Read Page} {entry exit : List ℕ} {answer : PageRead} → Paged p entry exit answer → (code offset : ℕ) (i : Input) →
     told_page answer ≡ bad code offset i → exit ≡ entry
 unfolding page_after
-spans_left {p = ok p} w code offset i e = absurd (bad_ok (sym e ∙ w.answers))
-spans_left {p = bad c o j} w code offset i e = w.leaves
+page_left {p = ok p} w code offset i e = absurd (bad_ok (sym e ∙ w.answers))
+page_left {p = bad c o j} w code offset i e = w.leaves

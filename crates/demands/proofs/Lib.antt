@@ -4,12 +4,14 @@ pub mod Plans
 pub mod Sections
 pub mod Left
 pub mod Batches
+pub mod Pages
 pub mod RowExactly
 pub mod FileExactly
 pub mod SectionExactly
 pub mod HeadExactly
 pub mod WriterExactly
 pub mod PlanExactly
+pub mod PageExactly
 pub mod Trips
 pub mod Calls
 pub mod Arrivals

@@ -1,4 +1,4 @@
--- What is refused through a plan, whatever its numbers: opening, look-up, places, comparing, pages.
+-- What is refused through a plan, whatever its numbers: opening, look-up, places, comparing, batches.
 -- Assumes nothing.
 use Prim.Native.Nat.{ℕ, zero, suc, ◌+◌, ◌*◌, ◌-◌, ◌/◌, ◌≤◌, ◌<◌}
 use mathlib.Core.Path.{◌≡◌, refl, sym, ap, ◌∙◌}
@@ -33,11 +33,10 @@ use Rattle.jump.specs.Jumps.{field_in, jumped, landed, unset_from, planned_open,
 use Rattle.jump.specs.Handles.{opened_row}
 use Rattle.adtg.specs.Plans.{blank, plan_beside, Checked}
 use Rattle.grammar.specs.Grammar.{Row}
-use Rattle.batch.specs.Spans.{start_in, is_row, span_of, moved, span_in}
-use Rattle.batch.specs.Pages.{Numbered, owned_in, page_of, first_in, room_in, rows_in, page_by}
+use Rattle.batch.specs.Spans.{owner_of, start_in, is_row, Span, span_of, moved, span_in, spans_in, rows_of, spans_by}
 use Rattle.demands.specs.Checks.{Refusals, Silent, Never, Nothing, ◌then◌, first, second, Exactly, Faults, Of, of, Lent, lent, Sizes, over, within, Short, short, Missing, missing, NoRoom, no_room}
 use Rattle.demands.specs.RowFaults.{FieldFault}
-use Rattle.demands.specs.PlanFaults.{PlanFault, differs, BitFault, this_bit, later_bit, PlanOpenFaults, StopFault, in-stop, behind_stop, HeldFault, held_variable, held_width, JumpFault, on_the_way, in-column, way_to, PlannedFaults, PlannedRowFaults, Beyond, beyond, PageFault, in_row, of_other, PageFaults}
+use Rattle.demands.specs.PlanFaults.{PlanFault, differs, BitFault, this_bit, later_bit, PlanOpenFaults, StopFault, in-stop, behind_stop, HeldFault, held_variable, held_width, JumpFault, on_the_way, in-column, way_to, PlannedFaults, PlannedRowFaults, BatchFault, in_row, of_other, behind_row, found_spans}
 use Rattle.demands.proofs.RowExactly.{Foreign, exactly_field, field_codes}
 use Rattle.demands.proofs.Exactly.{exactly_ways, same_error, moved_error, ok_silent, exactly_ok, exactly_then, exactly_last, exactly_alike, exactly_about, about_then, about_last, exactly_check, exactly_whole, exactly_missing, exactly_room, exactly_size, exactly_sized, single_fault, never_then, never_of, never_short, never_missing}
 
@@ -220,48 +219,75 @@ module _ (p : Plan) (row : Bytes) where
         (λ _. exactly_sized (exactly_then _ _ (exactly_about input.Column _ (exactly_missing (planned_count p) k))
         (λ _ _. exactly_then _ _ (exactly_planned_open p row) (λ _ _. exactly_about input.Row _ exactly_planned_answer))))
 
--- Pages, by any look-up that is exact.
+-- Batches, by any look-up that is exact.
 module _ (look : Bytes → Read Answer) (refuses : Bytes → Refusals) (exact : (part : Bytes) → Exactly (look part) (refuses part)) (s : Bytes) where
-  first_there : (room : ℕ) (os : List Numbered) {code offset : ℕ} {name : Input} → first_in look s room os ≡ bad code offset name → PageFault refuses s room os code offset name
-  unfolding first_in span_in moved
-  first_there room [] e = absurd (bad_ok (sym e))
-  first_there zero (o ∷ os) e = absurd (bad_ok (sym e))
-  first_there (suc room) (o ∷ os) {code} {offset} {name} e = by_look (look (drop at s)) refl e
-    where
-      at : ℕ
-      at = start_in s o.row.original
+  module _ (owner : ℕ) where
+    rows_there : (rs : List Row) {code offset : ℕ} {name : Input} → spans_in look s owner rs ≡ bad code offset name → BatchFault refuses s owner rs code offset name
+    unfolding spans_in span_in moved
+    rows_there [] e = absurd (bad_ok (sym e))
+    rows_there (r ∷ rs) {code} {offset} {name} e = by_owner (eqb (owner_of r) owner) refl e (λ q. rows_there rs q)
+      where
+        at : ℕ
+        at = start_in s r.original
 
-      by_name : (c k : ℕ) (n : Input) → refuses (drop at s) c k n → (t : Bool) → is_row n ≡ t →
-          ◌≡◌ {A = Read (Unit {0})} (((pick {A = Read Answer} t (bad c (at + k) input.Section) (bad c k n)) >>= λ a. ok (span_of at a)) >>= λ x. ok tt) (bad code offset name) →
-          PageFault refuses s (suc room) (o ∷ os) code offset name
-      by_name c k n f true t e = moved_error (PageFault refuses s (suc room) (o ∷ os)) e (in_row t f)
-      by_name c k n f false t e = moved_error (PageFault refuses s (suc room) (o ∷ os)) e (of_other t f)
+        by_rest : (x : Span) (xs : Read (List Span)) → spans_in look s owner rs ≡ xs → Silent (refuses (drop at s)) → (xs >>= λ ys. ok (x ∷ ys)) ≡ bad code offset name →
+            (spans_in look s owner rs ≡ bad code offset name → BatchFault refuses s owner rs code offset name) → BatchFault refuses s owner (r ∷ rs) code offset name
+        by_rest x (ok ys) q z e rest = absurd (bad_ok (sym e))
+        by_rest x (bad c o n) q z e rest = behind_row (λ _. z) (rest (q ∙ e))
 
-      by_look : (a : Read Answer) → look (drop at s) ≡ a → ◌≡◌ {A = Read (Unit {0})} ((moved at a >>= λ a. ok (span_of at a)) >>= λ x. ok tt) (bad code offset name) →
-          PageFault refuses s (suc room) (o ∷ os) code offset name
-      by_look (ok a) q e = absurd (bad_ok (sym e))
-      by_look (bad c k n) q e = by_name c k n ((exact (drop at s) c k n).0 q) (is_row n) refl e
+        by_name : owner_of r ≡ owner → (c o : ℕ) (n : Input) → refuses (drop at s) c o n → (t : Bool) → is_row n ≡ t →
+            (((pick {A = Read Answer} t (bad c (at + o) input.Section) (bad c o n)) >>= λ a. ok (span_of at a)) >>= λ x. spans_in look s owner rs >>= λ xs. ok (x ∷ xs)) ≡ bad code offset name →
+            BatchFault refuses s owner (r ∷ rs) code offset name
+        by_name own c o n f true t e = moved_error (BatchFault refuses s owner (r ∷ rs)) e (in_row own t f)
+        by_name own c o n f false t e = moved_error (BatchFault refuses s owner (r ∷ rs)) e (of_other own t f)
 
-  first_back : {room : ℕ} {os : List Numbered} {code offset : ℕ} {name : Input} → PageFault refuses s room os code offset name → first_in look s room os ≡ bad code offset name
-  unfolding first_in span_in moved
-  first_back (in_row {o = o} t f) = rw ((exact (drop (start_in s o.row.original) s) _ _ _).1 f, t) refl
-  first_back (of_other {o = o} t f) = rw ((exact (drop (start_in s o.row.original) s) _ _ _).1 f, t) refl
+        by_look : owner_of r ≡ owner → (a : Read Answer) → look (drop at s) ≡ a →
+            ((moved at a >>= λ a. ok (span_of at a)) >>= λ x. spans_in look s owner rs >>= λ xs. ok (x ∷ xs)) ≡ bad code offset name →
+            (spans_in look s owner rs ≡ bad code offset name → BatchFault refuses s owner rs code offset name) → BatchFault refuses s owner (r ∷ rs) code offset name
+        by_look own (ok a) q e rest = by_rest (span_of at a) (spans_in look s owner rs) refl (ok_silent a (exact (drop at s)) q) e rest
+        by_look own (bad c o n) q e rest = by_name own c o n ((exact (drop at s) c o n).0 q) (is_row n) refl e
 
-  pub page_exactly : (table : List ℕ) (rows from owner room : ℕ) →
-      Exactly (page_by look s table rows from owner room) (Sizes (lent input.Section s ∷ []) then PageFaults refuses s table rows from owner room)
-  unfolding page_by
-  page_exactly table rows from owner room =
+        by_owner : (t : Bool) → eqb (owner_of r) owner ≡ t →
+            pick t ((moved at (look (drop at s)) >>= λ a. ok (span_of at a)) >>= λ x. spans_in look s owner rs >>= λ xs. ok (x ∷ xs)) (spans_in look s owner rs) ≡ bad code offset name →
+            (spans_in look s owner rs ≡ bad code offset name → BatchFault refuses s owner rs code offset name) → BatchFault refuses s owner (r ∷ rs) code offset name
+        by_owner true t e rest = by_look (eqb-true _ _ t) (look (drop at s)) refl e rest
+        by_owner false t e rest = behind_row (λ own. absurd (eqb-false _ _ t own)) (rest e)
+
+    rows_back : (rs : List Row) {code offset : ℕ} {name : Input} → BatchFault refuses s owner rs code offset name → spans_in look s owner rs ≡ bad code offset name
+    unfolding spans_in span_in moved
+    rows_back rs (in_row {r = r} own t f) = rw (eq-eqb _ _ own, (exact (drop (start_in s r.original) s) _ _ _).1 f, t) refl
+    rows_back rs (of_other {r = r} own t f) = rw (eq-eqb _ _ own, (exact (drop (start_in s r.original) s) _ _ _).1 f, t) refl
+    rows_back rs (behind_row {r = r} {rs = qs} {code = code} {offset = offset} {name = name} quiet f) = by_owner (eqb (owner_of r) owner) refl (rows_back qs f)
+      where
+        at : ℕ
+        at = start_in s r.original
+
+        by_look : owner_of r ≡ owner → (a : Read Answer) → look (drop at s) ≡ a → spans_in look s owner qs ≡ bad code offset name →
+            ((moved at a >>= λ a. ok (span_of at a)) >>= λ x. spans_in look s owner qs >>= λ xs. ok (x ∷ xs)) ≡ bad code offset name
+        by_look own (ok a) q e = rw e refl
+        by_look own (bad c o n) q e = absurd (quiet own c o n ((exact (drop at s) c o n).0 q))
+
+        by_owner : (t : Bool) → eqb (owner_of r) owner ≡ t → spans_in look s owner qs ≡ bad code offset name →
+            pick t ((moved at (look (drop at s)) >>= λ a. ok (span_of at a)) >>= λ x. spans_in look s owner qs >>= λ xs. ok (x ∷ xs)) (spans_in look s owner qs) ≡ bad code offset name
+        by_owner true t e = by_look (eqb-true _ _ t) (look (drop at s)) refl e
+        by_owner false t e = e
+
+  pub batch_exactly :
+      (rows : List ℕ) (owner room : ℕ) →
+      Exactly (spans_by look s rows owner room)
+      (Sizes (lent input.Section s ∷ []) then BatchFault refuses s owner (rows_of rows)
+      then Of input.Output (NoRoom (length (found_spans (spans_in look s owner (rows_of rows)))) (room / 2)))
+  unfolding spans_by
+  batch_exactly rows owner room =
       exactly_size input.Section s _
-      (λ _. exactly_sized (exactly_then _ _ (exactly_about input.Table _ (exactly_beyond (rows_in (length table)) rows))
-      (λ _ _. exactly_then _ _ (exactly_about input.Place _ (exactly_beyond rows from))
-      (λ _ _. exactly_last _ (λ (u : Unit {0}). page_of look s rows (room_in room) (owned_in table rows from owner))
-      (λ c o n. (first_there (room_in room) (owned_in table rows from owner), first_back))))))
+      (λ _. exactly_sized (exactly_then _ _ (λ c o n. (rows_there owner (rows_of rows), rows_back owner (rows_of rows)))
+      (λ xs e. rw e (exactly_last _ (λ (u : Unit {0}). xs) (exactly_about input.Output _ (spans_room (length xs) room))))))
     where
-      exactly_beyond : (most number : ℕ) → Exactly (check (leb number most) 18 0) (Of input.Single (Beyond most number))
-      exactly_beyond most number = exactly_check (leb number most) 18 0 (λ t. beyond (leb-false _ _ t)) told
+      spans_room : (n room : ℕ) → Exactly (check (leb (2 * n) room) 16 n) (Of input.Single (NoRoom n (room / 2)))
+      spans_room n room = exactly_check (leb (2 * n) room) 16 n (λ t. let l : room < 2 * n = leb-false _ _ t in no_room (omega arith)) told
         where
-          told : (c o : ℕ) → Beyond most number c o → (leb number most ≡ false) × (c ≡ 18) × (o ≡ 0)
-          told c o (beyond h) = (lt-leb _ _ h, refl, refl)
+          told : (c o : ℕ) → NoRoom n (room / 2) c o → (leb (2 * n) room ≡ false) × (c ≡ 16) × (o ≡ n)
+          told c o (no_room h) = let l : room < 2 * n = omega arith in (lt-leb _ _ l, refl, refl)
 
 -- Codes that are never given.
 
@@ -286,17 +312,15 @@ module _ {n : ℕ} (f : Foreign n) (p : Plan) (row : Bytes) where
     pub never_planned : (n ≡ 18 → ⊥) → Never n (PlannedFaults p row k)
     never_planned m = never_then (never_missing m) (never_then never_planned_open (never_of (λ _ h. jump_codes h refl)))
 
-pub never_page :
-    {n : ℕ} {refuses : Bytes → Refusals} (s : Bytes) → (n ≡ 18 → ⊥) → ((start : ℕ) → Never n (refuses (drop (start_in s start) s))) →
-    (table : List ℕ) (rows from owner room : ℕ) → Never n (PageFaults refuses s table rows from owner room)
-never_page {n} {refuses} s m never table rows from owner room = never_then (never_of (λ _ h. beyond_codes h refl)) (never_then (never_of (λ _ h. beyond_codes h refl)) (λ o i h. by h refl))
+pub never_batch :
+    {n : ℕ} {refuses : Bytes → Refusals} (s : Bytes) (owner : ℕ) → ((r : Row) → Never n (refuses (drop (start_in s r.original) s))) → (rs : List Row) →
+    Never n (BatchFault refuses s owner rs)
+never_batch {n} {refuses} s owner never rs offset name h = by h refl
   where
-    beyond_codes : {a b code offset : ℕ} → Beyond a b code offset → code ≡ n → ⊥
-    beyond_codes (beyond h) e = m (sym e)
-
-    by : {k code offset : ℕ} {os : List Numbered} {name : Input} → PageFault refuses s k os code offset name → code ≡ n → ⊥
-    by (in_row {o = o} _ p) e = never o.row.original _ _ (rw e at p)
-    by (of_other {o = o} _ p) e = never o.row.original _ _ (rw e at p)
+    by : {rs : List Row} {code offset : ℕ} {name : Input} → BatchFault refuses s owner rs code offset name → code ≡ n → ⊥
+    by (in_row {r = r} _ _ p) e = never r _ _ (rw e at p)
+    by (of_other {r = r} _ _ p) e = never r _ _ (rw e at p)
+    by (behind_row _ p) e = by p e
 
 -- Comparing a plan with the one that a schema makes.
 pub check_plan_exactly :

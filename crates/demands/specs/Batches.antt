@@ -1,54 +1,32 @@
--- Promise: what is said of a batch: one column of the rows of one owner, page by page.
+-- Promise: what is said of a batch: one column of every row of one table.
 -- Assumes nothing.
-use Rattle.std.specs.Prelude.{ℕ, ◌+◌, ◌<◌, ◌≤◌, ◌≡◌, List, [], ◌∷◌, ◌++◌, length}
+use Rattle.std.specs.Prelude.{ℕ, ◌+◌, ◌≤◌, ◌≡◌, List, [], ◌∷◌, length, eqb}
 use Rattle.std.proofs.Math.Option.{some}
-use Rattle.wire.specs.declared.error.Input.{Input}
-use Rattle.wire.specs.Read.{Bytes, Read, ok, bad}
+use Rattle.wire.specs.Read.{Bytes, Read, ok, pick}
 use Rattle.walk.specs.Rows.{Answer}
 use Rattle.tree.specs.Schemas.{Schema, child_number}
-use Rattle.batch.specs.Spans.{row_at, parents, owner_of, Span, span, null_mark, chapter_mark, span_in}
-use Rattle.batch.specs.Pages.{Numbered, Located, located, Page, page}
+use Rattle.grammar.specs.Grammar.{Row}
+use Rattle.batch.specs.Spans.{parents, owner_of, start_in, Span, span, null_mark, chapter_mark, span_in}
 use Rattle.adtg.specs.Rows.{look_up_in}
 
 -- a column's look-up by the walk, in a schema of a file
 abbrev pub walked : (file : Bytes) (number column : ℕ) → Bytes → Read Answer
 walked file number column part = look_up_in file number part column
 
+-- the rows of an owner, in order
+unfoldable pub owned : ℕ → List Row → List Row
+owned owner [] = []
+owned owner (r ∷ rs) = pick (eqb (owner_of r) owner) (r ∷ owned owner rs) (owned owner rs)
+
 -- Which schema the rows of an owner have: the parent's the top one, a child's that of its id.
 pub data Owner (S : List Schema) : (owner number : ℕ) → Type 0 where
   parent_rows : Owner S parents 0
   child_rows : {id k : ℕ} → child_number S id ≡ some k → Owner S id k
 
--- What look-ups row by row find, and how they end: behind the last row, or with the error of the first row that is refused.
-pub record Looked : Type 0 where
-  pub found : List Located
-  pub end : Read (Unit {0})
-
-abbrev pub looked : List Located → Read (Unit {0}) → Looked
-looked xs end = record { found = xs; end = end }
-
-abbrev pub looked_with : Numbered → Read Span → Looked → Looked
-looked_with o (ok x) rest = looked (located o.number x ∷ rest.found) rest.end
-looked_with o (bad code offset about) rest = looked [] (bad code offset about)
-
--- the look-ups of a column in these rows, one by one
-unfoldable pub row_by_row : (look : Bytes → Read Answer) → Bytes → List Numbered → Looked
-row_by_row look s [] = looked [] (ok tt)
-row_by_row look s (o ∷ os) = looked_with o (span_in look s o.row.original) (row_by_row look s os)
-
--- Calls one after the other, the first from one row on, each later one from the row that the call before says comes next, into whatever room
--- each is lent, but at least that of one span: all that they find, and how they end.
-pub data Pages (call : (from room : ℕ) → Read Page) (rows : ℕ) : (from : ℕ) → List Located → (end : Read (Unit {0})) → Type 0 where
-  last_page : {from room : ℕ} {xs : List Located} → 3 ≤ room → call from room ≡ ok (page xs rows) → Pages call rows from xs (ok tt)
-  then-more : {from room next : ℕ} {xs ys : List Located} {end : Read (Unit {0})} → 3 ≤ room → call from room ≡ ok (page xs next) → next < rows →
-      Pages call rows next ys end → Pages call rows from (xs ++ ys) end
-  then-refused : {from room code offset : ℕ} {name : Input} → 3 ≤ room → call from room ≡ bad code offset name → Pages call rows from [] (bad code offset name)
-
--- A span is that of a row of the owner: what the look-up answers on the part of the section from this row's start on.
-pub record SpanOf (look : Bytes → Read Answer) (s : Bytes) (table : List ℕ) (rows owner : ℕ) (x : Located) : Type 0 where
-  pub inside : x.row < rows
-  pub own : owner_of (row_at table x.row) ≡ owner
-  pub answers : span_in look s (row_at table x.row).original ≡ ok x.span
+-- Spans are one for one those of rows: each is what the look-up answers on the part of the section from its row's start on.
+pub data SpansOf (look : Bytes → Read Answer) (s : Bytes) : List Row → List Span → Type 0 where
+  no_row : SpansOf look s [] []
+  a_row_lem : {r : Row} {rs : List Row} {x : Span} {xs : List Span} → span_in look s r.original ≡ ok x → SpansOf look s rs xs → SpansOf look s (r ∷ rs) (x ∷ xs)
 
 -- A span lies in the section, or is one of the two marks.
 pub data Lies (s : Bytes) : Span → Type 0 where
@@ -61,3 +39,8 @@ pub data Placed (from place : ℕ) : Span → Type 0 where
   placed : {b : ℕ} → Placed from place (span (from + place) b)
   null_placed : Placed from place (span null_mark null_mark)
   chapter_placed : Placed from place (span chapter_mark chapter_mark)
+
+-- Spans one for one of rows, each at its place behind its row's start.
+pub data SpansAt (s : Bytes) (place : ℕ) : List Row → List Span → Type 0 where
+  no_span : SpansAt s place [] []
+  a_span : {r : Row} {rs : List Row} {x : Span} {xs : List Span} → Placed (start_in s r.original) place x → SpansAt s place rs xs → SpansAt s place (r ∷ rs) (x ∷ xs)

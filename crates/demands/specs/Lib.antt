@@ -3,12 +3,14 @@ pub mod Agreement
 pub mod Sections
 pub mod Checks
 pub mod Batches
+pub mod Pages
 pub mod RowFaults
 pub mod FileFaults
 pub mod SectionFaults
 pub mod HeadFaults
 pub mod WriterFaults
 pub mod PlanFaults
+pub mod PageFaults
 pub mod Trips
 pub mod Calls
 pub mod Arrivals

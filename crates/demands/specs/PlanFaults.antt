@@ -3,7 +3,7 @@
 use Rattle.std.specs.Prelude.{ℕ, suc, ◌+◌, ◌/◌, ◌<◌, ◌≡◌, List, [], ◌∷◌, map, Bool, true, false, length, drop, eqb}
 use Rattle.wire.specs.declared.error.Input.{Input}
 use Rattle.wire.specs.declared.error.Input.TheVariants as input
-use Rattle.wire.specs.Read.{Bytes, ok}
+use Rattle.wire.specs.Read.{Bytes, Read, ok, bad}
 use Rattle.wire.specs.Bits.{bit_set}
 use Rattle.maps.specs.Maps.{top_bit}
 use Rattle.column.specs.Columns.{is_variable}
@@ -16,8 +16,8 @@ use Rattle.plan.specs.declared.plan.Plan.{Plan}
 use Rattle.plan.specs.Packed.{width_in}
 use Rattle.plan.specs.Plans.{planned_word, planned_mark, planned_gap, planned_count, planned_map, planned_chapters}
 use Rattle.jump.specs.Jumps.{stops_to, by_bit}
-use Rattle.batch.specs.Spans.{start_in, is_row}
-use Rattle.batch.specs.Pages.{Numbered, owned_in, room_in, rows_in}
+use Rattle.grammar.specs.Grammar.{Row}
+use Rattle.batch.specs.Spans.{owner_of, start_in, is_row, Span}
 use Rattle.demands.specs.Checks.{Refusals, Silent, ◌then◌, Of, Lent, lent, Sizes, Short, Missing}
 use Rattle.demands.specs.RowFaults.{FieldFault}
 
@@ -64,21 +64,17 @@ PlannedFaults p row k = Of input.Column (Missing (planned_count p) k) then PlanO
 abbrev pub PlannedRowFaults : Plan → ℕ → Bytes → Refusals
 PlannedRowFaults p k row = Sizes (lent input.Row row ∷ []) then PlannedFaults p row k
 
--- 18: a number over the greatest there is; at 0
-pub data Beyond (most number : ℕ) : (code offset : ℕ) → Type 0 where
-  beyond : most < number → Beyond most number 18 0
+-- One column of the rows of an owner, by what a look-up refuses of the part of the section from a row's start on: the first row that is refused,
+-- an error of the row being one of the section, at its place there.
+pub data BatchFault (refuses : Bytes → Refusals) (s : Bytes) (owner : ℕ) : List Row → (code offset : ℕ) → Input → Type 0 where
+  in_row : {r : Row} {rs : List Row} {code offset : ℕ} {name : Input} → owner_of r ≡ owner → is_row name ≡ true →
+      refuses (drop (start_in s r.original) s) code offset name → BatchFault refuses s owner (r ∷ rs) code (start_in s r.original + offset) input.Section
+  of_other : {r : Row} {rs : List Row} {code offset : ℕ} {name : Input} → owner_of r ≡ owner → is_row name ≡ false →
+      refuses (drop (start_in s r.original) s) code offset name → BatchFault refuses s owner (r ∷ rs) code offset name
+  behind_row : {r : Row} {rs : List Row} {code offset : ℕ} {name : Input} → (owner_of r ≡ owner → Silent (refuses (drop (start_in s r.original) s))) →
+      BatchFault refuses s owner rs code offset name → BatchFault refuses s owner (r ∷ rs) code offset name
 
--- A page of rows of one owner, by what a look-up refuses of the part of the section from a row's start on: its first row, where there is room
--- for it. An error of the row is one of the section, at its place there.
-pub data PageFault (refuses : Bytes → Refusals) (s : Bytes) : (room : ℕ) → List Numbered → (code offset : ℕ) → Input → Type 0 where
-  in_row : {room code offset : ℕ} {o : Numbered} {os : List Numbered} {name : Input} → is_row name ≡ true →
-      refuses (drop (start_in s o.row.original) s) code offset name →
-      PageFault refuses s (suc room) (o ∷ os) code (start_in s o.row.original + offset) input.Section
-  of_other : {room code offset : ℕ} {o : Numbered} {os : List Numbered} {name : Input} → is_row name ≡ false →
-      refuses (drop (start_in s o.row.original) s) code offset name → PageFault refuses s (suc room) (o ∷ os) code offset name
-
--- A page, behind the section's size: the table has so many rows (18), and the one that it begins with (18); then its first row.
-abbrev pub PageFaults : (refuses : Bytes → Refusals) → Bytes → (table : List ℕ) → (rows from owner room : ℕ) → Refusals
-PageFaults refuses s table rows from owner room =
-    Of input.Table (Beyond (rows_in (length table)) rows) then Of input.Place (Beyond rows from)
-    then PageFault refuses s (room_in room) (owned_in table rows from owner)
+-- the spans that are found; none beside an error
+abbrev pub found_spans : Read (List Span) → List Span
+found_spans (ok xs) = xs
+found_spans (bad code offset name) = []

@@ -197,6 +197,18 @@ extern "C" {
         row_length: usize,
         column: usize,
     ) -> Found;
+    fn adtg_find_column(
+        numbers: *const [u64; Plan::NUMBERS],
+        section: *const u8,
+        section_length: usize,
+        rows: *const u32,
+        rows_length: usize,
+        owner: usize,
+        column: usize,
+        spans: *mut u32,
+        spans_length: usize,
+        out: *mut Numbers,
+    ) -> u32;
     fn adtg_find_page(
         numbers: *const [u64; Plan::NUMBERS],
         section: *const u8,
@@ -550,6 +562,31 @@ pub fn open_row(plan: &Plan, row: &[u8]) -> Reply<usize> {
 #[inline]
 pub fn planned_look_up(numbers: &[u64; Plan::NUMBERS], row: &[u8], column: usize) -> Found {
     unsafe { adtg_planned_look_up(numbers, row.as_ptr(), row.len(), column) }
+}
+
+/// Calls `adtg_find_column`.
+pub fn find_column(
+    numbers: &[u64; Plan::NUMBERS],
+    section: &[u8],
+    rows: &[u32],
+    owner: usize,
+    column: usize,
+    spans: &mut [u32],
+) -> Reply<usize> {
+    Reply::of(|out| unsafe {
+        adtg_find_column(
+            numbers,
+            section.as_ptr(),
+            section.len(),
+            rows.as_ptr(),
+            rows.len(),
+            owner,
+            column,
+            spans.as_mut_ptr(),
+            spans.len(),
+            out,
+        )
+    })
 }
 
 /// Calls `adtg_find_page`.

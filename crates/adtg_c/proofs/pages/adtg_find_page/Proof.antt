@@ -1,11 +1,11 @@
 -- The answer and the numbers are those of the page.
 -- Assumes nothing.
-use Rattle.batch.proofs.Finding.{page_length}
+use Rattle.batch.proofs.PageFinding.{page_length}
 use mathlib.Core.Path.{ap, ◌∙◌}
 use Rattle.adtg_c.specs.PageAnswers.{page_answer}
 use borrow.Author.Rules.{rules}
-use Rattle.adtg_c.proofs.batches.adtg_find_page.Statement.{statement}
-use Rattle.adtg_c.proofs.batches.adtg_find_page.Tie as tie
+use Rattle.adtg_c.proofs.pages.adtg_find_page.Statement.{statement}
+use Rattle.adtg_c.proofs.pages.adtg_find_page.Tie as tie
 
 same_length : tie.Need-same-length
 same_length c =

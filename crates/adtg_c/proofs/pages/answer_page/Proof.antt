@@ -4,8 +4,8 @@ use mathlib.Core.Path.{sym, ap}
 use Rattle.batch.specs.Pages.{told_page}
 use Rattle.adtg_c.specs.PageAnswers.{page_answer}
 use borrow.Author.Rules.{rules}
-use Rattle.adtg_c.proofs.batches.answer_page.Statement.{statement}
-use Rattle.adtg_c.proofs.batches.answer_page.Tie as tie
+use Rattle.adtg_c.proofs.pages.answer_page.Statement.{statement}
+use Rattle.adtg_c.proofs.pages.answer_page.Tie as tie
 
 returns : tie.Need-returns
 returns c =
