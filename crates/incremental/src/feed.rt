@@ -1,5 +1,5 @@
 // The calls of a reader, by value: a record and a fragment in, the next record and an answer out.
-ghost use Rattle.std.specs.Prelude.{◌≡◌, ◌+◌, ◌≤◌, length};
+ghost use Rattle.std.specs.Prelude.{◌≡◌, ◌+◌, ◌*◌, ◌≤◌, length};
 ghost use Rattle.wire.specs.Errors.{code_of};
 ghost use Rattle.tree.specs.Table.{schemas_in};
 ghost use Rattle.tree.specs.Schemas.{column_count};
@@ -131,6 +131,41 @@ fn read_schemas(file: &[u8], slots: &mut [u64; 512]) -> PlaceRead
     }
 }
 
+// Takes in a fragment within the limit, by schemas that few numbers have room for. This and the next are not inlined: a call needs the stack
+// of one table of shapes.
+#[inline(never)]
+fn feed_few(
+    slots: &[u64; 512],
+    schemas: usize,
+    columns: usize,
+    reader: Reader,
+    fragment: &[u8],
+) -> Reader
+    requires { Sound slots.now schemas × (column_count (schemas_in 0 schemas slots.now) ≤ columns) × (columns ≤ 256) × Sane reader (place_in reader) × (place_in reader + length fragment.now ≤ 16777216) × (8 * schemas + 4 * columns ≤ 256) }
+    ensures { Stands (feed (schemas_in 0 schemas slots.now) (state_in reader) fragment.now) (place_in reader + length fragment.now) result }
+{
+    let mut shapes = [0usize; FEW_NUMBERS];
+    keep_schemas(slots, schemas, &mut shapes);
+    take_in(slots, &shapes, schemas, row_step(&shapes), reader, fragment)
+}
+
+// The same by any schemas of a file.
+#[inline(never)]
+fn feed_most(
+    slots: &[u64; 512],
+    schemas: usize,
+    columns: usize,
+    reader: Reader,
+    fragment: &[u8],
+) -> Reader
+    requires { Sound slots.now schemas × (column_count (schemas_in 0 schemas slots.now) ≤ columns) × (columns ≤ 256) × Sane reader (place_in reader) × (place_in reader + length fragment.now ≤ 16777216) }
+    ensures { Stands (feed (schemas_in 0 schemas slots.now) (state_in reader) fragment.now) (place_in reader + length fragment.now) result }
+{
+    let mut shapes = [0usize; MOST_NUMBERS];
+    keep_schemas(slots, schemas, &mut shapes);
+    take_in(slots, &shapes, schemas, row_step(&shapes), reader, fragment)
+}
+
 // Takes in a fragment within the limit.
 fn feed_rows(
     slots: &[u64; 512],
@@ -143,13 +178,9 @@ fn feed_rows(
     ensures { Stands (feed (schemas_in 0 schemas slots.now) (state_in reader) fragment.now) (place_in reader + length fragment.now) result }
 {
     if 8 * schemas + 4 * columns <= FEW_NUMBERS {
-        let mut shapes = [0usize; FEW_NUMBERS];
-        keep_schemas(slots, schemas, &mut shapes);
-        return take_in(slots, &shapes, schemas, row_step(&shapes), reader, fragment);
+        return feed_few(slots, schemas, columns, reader, fragment);
     }
-    let mut shapes = [0usize; MOST_NUMBERS];
-    keep_schemas(slots, schemas, &mut shapes);
-    take_in(slots, &shapes, schemas, row_step(&shapes), reader, fragment)
+    feed_most(slots, schemas, columns, reader, fragment)
 }
 
 // The bytes so far.

@@ -15,6 +15,7 @@ use wire::integer::IntRead;
 use wire::lesser;
 
 // The row data at `at` open: where their fields start.
+#[inline(always)]
 pub fn open_data(columns: Columns, update: bool, s: &[u8], at: usize) -> IntRead
     ensures { told_int result ≡ data_opened update (columns_in columns) s.now at }
 {
