@@ -161,7 +161,7 @@ alone (an_error _) h = h
 -- what comes first has only errors of the whole
 pub of_first : {A B : Type 0} {F : Faults} (r : Read A) (f : A → Read B) → OfError F (r >>= f) → OfError F r
 of_first (ok a) f h = no_error
-of_first (bad c o input.Single) f (an_error h) = an_error h
+of_first (bad c o i) f h = let (p, z) = of_told h refl in rw z (an_error p)
 
 -- by another name it is the same fault
 pub exactly_about : {A : Type 0} {F : Faults} (name : Input) (r : Read A) → Exactly r (Of input.Single F) → Exactly (about name r) (Of name F)

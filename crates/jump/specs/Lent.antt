@@ -58,7 +58,7 @@ over t s p prefixes =
 -- what a look-up answers by the field at a place
 abbrev pub found_in : Place → Read Field → Read Answer
 found_in w (ok f) = ok (field (reached w f))
-found_in w (bad code offset single) = bad code offset input.Row
+found_in w (bad code offset _) = bad code offset input.Row
 
 -- What is checked before a row is looked at: its size (19), the column number (18).
 unfoldable pub asked : Plan → Bytes → ℕ → Read (Unit {0})

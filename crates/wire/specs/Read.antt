@@ -38,7 +38,7 @@ check false code offset = bad code offset input.Single
 -- an error of a single input, by the name that the input has in a call with several
 unfoldable pub about : {A : Type 0} → Input → Read A → Read A
 about name (ok a) = ok a
-about name (bad code offset single) = bad code offset name
+about name (bad code offset _) = bad code offset name
 
 -- an error value, in the paper's numbers
 abbrev pub refused : {A : Type 0} → Error → Read A
