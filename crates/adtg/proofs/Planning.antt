@@ -1,11 +1,9 @@
 -- What making and comparing plans promise, by what was read of the file.
 -- Assumes nothing.
-use Prim.Native.Nat.{ℕ}
 use mathlib.Core.Path.{◌≡◌, sym, ap, ◌∙◌}
 use mathlib.Core.List.{List}
 use Rattle.wire.specs.declared.error.Error.{Error}
-use Rattle.wire.specs.declared.error.Input.{Input}
-use Rattle.wire.specs.Read.{Read, ok, bad, refused, ◌>>=◌}
+use Rattle.wire.specs.Read.{Read, ok, refused, ◌>>=◌}
 use Rattle.wire.proofs.Pieces.{bad_ok, ok_ok}
 use Rattle.column.specs.declared.column.Column.{Column}
 use Rattle.plan.specs.declared.plan.Plan.{Plan}

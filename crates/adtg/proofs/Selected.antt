@@ -1,7 +1,7 @@
 -- The columns of a schema of a file: what they are, and that every question with the file is a question about them.
 -- Assumes nothing.
 use Prim.Native.Nat.{ℕ, zero, suc, ◌≤◌, ◌<◌}
-use mathlib.Core.List.{List, [], ◌∷◌, map}
+use mathlib.Core.List.{List, map}
 use mathlib.Core.Path.{◌≡◌, refl, sym, ap, ◌∙◌}
 use native.Mathlib.Omega.{arith}
 use lib.ListN.{length, length-map, get_or}
@@ -13,7 +13,7 @@ use Rattle.column.specs.Layout.{most_columns}
 use Rattle.tree.specs.Tree.{most_flags, most_maximum}
 use Rattle.tree.specs.Schemas.{Entry, as_column}
 use Rattle.questions.specs.Questions.{alone, Selected, selected_of}
-use Rattle.tree.proofs.SchemaLists.{EntryRange, EntriesRange, no_entry, an_entry}
+use Rattle.tree.proofs.SchemaLists.{EntriesRange, no_entry, an_entry}
 use Rattle.walk.specs.Presence.{no_column}
 use Rattle.adtg.specs.InSchema.{both, in_schema}
 use Rattle.plan.specs.declared.plan.Plan.{Plan}

@@ -3,7 +3,6 @@
 use Rattle.std.specs.Prelude.{ℕ, List}
 use Rattle.wire.specs.declared.error.Input.TheVariants as input
 use Rattle.wire.specs.Read.{Bytes, Read, about, sized}
-use Rattle.column.specs.declared.column.Column.{Column}
 use Rattle.encode.specs.Writers.{write_original, write_update}
 use Rattle.adtg.specs.InSchema.{in_schema}
 

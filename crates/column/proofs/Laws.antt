@@ -23,7 +23,7 @@ use Rattle.wire.proofs.Pieces.{bad_ok}
 use Rattle.column.specs.declared.column.Column.{Column}
 use Rattle.column.specs.declared.field.Field.{Field}
 use Rattle.column.specs.declared.types.Kind.{Kind}
-use Rattle.column.specs.declared.types.Kind.TheVariants.{Fixed, Variable, Wide, Chapter, Unknown}
+use Rattle.column.specs.declared.types.Kind.TheVariants.{Variable, Wide, Unknown}
 use Rattle.column.specs.Types.{chapter_code, Entry, types, kind_in, kind_of, variable_kind, wide_kind, chapter_kind}
 use Rattle.column.specs.Columns.{kind, width, is_variable, is_wide, is_chapter, prefix_size, prefix_bytes, greatest, length_error_of, length_error}
 use Rattle.column.specs.Fields.{field, allowed, bytes_at, variable_at, field_at}

@@ -1,8 +1,8 @@
 -- Demand 1, call by call: what each public call refuses, exactly, and 19 exactly when an input is over the limit. Each statement is about the
 -- definition that the call's contract cites; `Refuses` (specs/Checks) has the inputs with a size, then the checks behind the sizes.
 -- Assumes nothing.
-use Prim.Native.Nat.{ℕ, ◌/◌, ◌≤◌, ◌<◌}
-use mathlib.Core.Path.{◌≡◌, refl, sym, ◌∙◌}
+use Prim.Native.Nat.{ℕ, ◌/◌, ◌≤◌}
+use mathlib.Core.Path.{◌≡◌, refl, sym}
 use mathlib.Core.List.{List, [], ◌∷◌}
 use mathlib.Core.Bool.{Bool, true, false}
 use native.Mathlib.Omega.{arith}
@@ -26,12 +26,11 @@ use Rattle.jump.specs.Jumps.{planned_row}
 use Rattle.jump.specs.Handles.{opened_row}
 use Rattle.batch.specs.Spans.{start_in, rows_of, planned, spans_in, spans_found}
 use Rattle.batch.specs.Pages.{page_found}
-use Rattle.adtg.specs.InSchema.{both, in_schema}
 use Rattle.adtg.specs.Rows.{look_up_in, field_count_in, row_end_in}
-use Rattle.adtg.specs.Updates.{look_update_in, update_end_in, sizes_of, current_in}
+use Rattle.adtg.specs.Updates.{look_update_in, update_end_in, current_in}
 use Rattle.adtg.specs.Writers.{write_original_in, write_update_in}
 use Rattle.adtg.specs.Plans.{plan_in, plan_beside, Checked}
-use Rattle.demands.specs.Checks.{Refusals, Silent, Never, ◌then◌, Exactly, Of, lent, lent_numbers, Sizes, over, within, Missing, NoRoom, Refuses}
+use Rattle.demands.specs.Checks.{Refusals, Never, ◌then◌, Of, lent, lent_numbers, Sizes, over, within, Missing, NoRoom, Refuses}
 use Rattle.demands.specs.RowFaults.{OpenFaults, RowFaults, LookUpFaults, UpdateFaults, LookUpdateFaults, CurrentFaults}
 use Rattle.demands.specs.FileFaults.{FileFault, schemas_in, columns_in, numbers_in, NoChild, WrittenFault}
 use Rattle.demands.specs.SectionFaults.{CheckFaults, ListFaults}

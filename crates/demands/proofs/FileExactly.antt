@@ -34,11 +34,11 @@ use Rattle.numbers.proofs.Forms.{Over, form_over}
 use Rattle.numbers.proofs.Coding.{coded_bytewise}
 use Rattle.numbers.proofs.Trips.{AllSmall}
 use Rattle.tree.proofs.Laws.{file_over, file_within}
-use Rattle.grammar.proofs.RowErrors.{OfError, no_error, an_error, of_bind, of_check, of_other, of_told}
+use Rattle.grammar.proofs.RowErrors.{OfError, no_error, an_error, of_bind, of_check, of_other}
 use Rattle.adtg.specs.InSchema.{both, in_schema}
-use Rattle.demands.specs.Checks.{Refusals, Silent, Never, Nothing, ◌then◌, first, second, Exactly, Faults, Of, of, Lent, lent, lent_numbers, Sizes, over, within, Missing, missing, NoRoom}
+use Rattle.demands.specs.Checks.{Refusals, Silent, Never, Nothing, ◌then◌, first, second, Exactly, Faults, Of, of, Lent, lent, lent_numbers, Sizes, over, within, Missing, NoRoom}
 use Rattle.demands.specs.FileFaults.{NumberFault, no_group, no_second, no_third, second_zero, third_zero, too_long, RangeFault, in-number, below, above, Part, a_schema, some_columns, a_column, SchemaFault, too_deep, in_count, too_many, in-columns, in-first, in_rest, in_code, unknown_type, in-flags, in-maximum, in-id, repeated, in-nested, FileFault, in-schema, bytes_after, schemas_in, columns_in, numbers_in, NoChild, no_child, WrittenFault, over_groups, as_read}
-use Rattle.demands.proofs.Exactly.{exactly_of, exactly_fitting, exactly_size_of, never_missing, never_room, moved_error, ok_silent, exactly_then, exactly_last, exactly_alike, single_fault, exactly_about, about_last, exactly_missing, exactly_room, exactly_check, exactly_size, exactly_sized, never_then, never_of}
+use Rattle.demands.proofs.Exactly.{exactly_of, exactly_fitting, exactly_size_of, never_missing, never_room, moved_error, ok_silent, exactly_then, exactly_last, exactly_alike, single_fault, exactly_about, about_last, exactly_missing, exactly_room, exactly_size, exactly_sized, never_then, never_of}
 
 -- errors of either of two readers
 of_pick : {A : Type 0} {P : Faults} (t : Bool) {x y : Read A} → (t ≡ true → OfError P x) → (t ≡ false → OfError P y) → OfError P (pick t x y)

@@ -4,7 +4,6 @@
 use Prim.Native.Nat.{ℕ, zero, suc, ◌+◌, ◌≤◌, ◌<◌}
 use mathlib.Core.Path.{◌≡◌, refl, sym, ap, subst, ◌∙◌}
 use mathlib.Core.List.{[], ◌∷◌, ◌++◌, append-nil}
-use mathlib.Core.Logic.{◌↔◌}
 use mathlib.Core.Bool.{Bool, true, false, true≢false}
 use native.Mathlib.Omega.{arith}
 use lib.ListN.{length, get_or, length-append}
@@ -24,9 +23,9 @@ use Rattle.header.specs.Header.{signature, header_as, header_fields, header_of, 
 use Rattle.options.specs.Options.{token, guid, async_allowed, span_from, spans_as, options_as, span_at, spans_of, async_rest, options_rest, options_sized, options_of, string_bytes, head_bytes, options_bytes, strings_size, options_size, options_written}
 use Rattle.header.proofs.Laws.{fields_short}
 use Rattle.options.proofs.Laws.{length_string, length_options}
-use Rattle.demands.specs.Checks.{Refusals, Never, ◌then◌, Exactly, Faults, Of, of, lent, Sizes, Short, short, NoRoom, no_room}
+use Rattle.demands.specs.Checks.{Refusals, Never, ◌then◌, Exactly, Faults, Of, of, lent, Sizes, Short, NoRoom, no_room}
 use Rattle.demands.specs.HeadFaults.{Agree, ConstantFault, ends, differs, ValueFault, below, above, SizeFault, wrong_size, HeaderFaults, size_field, string_end, first_end, second_end, third_end, NotFilled, in-first, in-second, in-third, in-async, OptionsFaults, HeaderWriteFaults, OptionsWriteFaults, RefusesAs}
-use Rattle.demands.proofs.Exactly.{never_short, never_room, exactly_fitting, exactly_then, exactly_last, exactly_alike, exactly_about, exactly_check, exactly_whole, exactly_room, exactly_size, exactly_sized, over_iff, never_then, never_of}
+use Rattle.demands.proofs.Exactly.{never_short, never_room, exactly_fitting, exactly_then, exactly_last, exactly_alike, exactly_about, exactly_check, exactly_whole, exactly_size, exactly_sized, never_then, never_of}
 
 -- Checks of one input.
 

@@ -22,7 +22,7 @@ use Rattle.column.specs.Fields.{allowed, bytes_at, variable_at, field_at}
 use Rattle.tree.specs.Numbers.{third_group, second_group, number_in}
 use Rattle.tree.specs.Tree.{member}
 use Rattle.tree.specs.Reader.{read_number, read_range, read_fixed, read_variable, read_chapter, read_kind, read_column, read_columns, read_schema, ended, read_file, file_of}
-use Rattle.tree.specs.Schemas.{Schema, schema, own_columns, nested_schemas, schemas_of, read_schemas, schema_at, columns_of}
+use Rattle.tree.specs.Schemas.{Schema, own_columns, nested_schemas, schemas_of, read_schemas, schema_at, columns_of}
 use Rattle.questions.specs.Questions.{with_schema}
 use Rattle.walk.specs.Presence.{nullables, presence_bytes, marks, bit_of, present, chapter_present, clear}
 use Rattle.walk.specs.Rows.{Answer, field, chapter, step, walk, arrive, opened, field_of, column_of, known, look_up}

@@ -1,17 +1,16 @@
 -- What is refused through a plan, whatever its numbers: opening, look-up, places, comparing, batches.
 -- Assumes nothing.
-use Prim.Native.Nat.{ℕ, zero, suc, ◌+◌, ◌*◌, ◌-◌, ◌/◌, ◌≤◌, ◌<◌}
+use Prim.Native.Nat.{ℕ, zero, suc, ◌+◌, ◌*◌, ◌/◌, ◌<◌}
 use mathlib.Core.Path.{◌≡◌, refl, sym, ap, ◌∙◌}
 use mathlib.Core.List.{List, [], ◌∷◌}
 use mathlib.Core.Bool.{Bool, true, false, not, true≢false}
-use mathlib.Core.Logic.{◌↔◌}
 use native.Mathlib.Omega.{arith}
 use lib.ListN.{length, drop}
-use lib.Dec.{leb, ltb, eqb}
-use borrow.Author.Tests.{leb-true, leb-false, le-leb, lt-leb, ltb-true, ltb-false, lt-ltb, eqb-true, eqb-false, eq-eqb, ne_eqb}
+use lib.Dec.{leb, eqb}
+use borrow.Author.Tests.{leb-true, leb-false, lt-leb, eqb-true, eqb-false, eq-eqb}
 use Rattle.wire.specs.declared.error.Input.{Input}
 use Rattle.wire.specs.declared.error.Input.TheVariants as input
-use Rattle.wire.specs.Read.{Bytes, Read, ok, bad, ◌>>=◌, pick, check, about, sized, whole, limit}
+use Rattle.wire.specs.Read.{Bytes, Read, ok, bad, ◌>>=◌, pick, check, about}
 use Rattle.wire.specs.Bits.{bit_set}
 use Rattle.maps.specs.Maps.{top_bit}
 use Rattle.wire.proofs.Pieces.{bad_ok}
@@ -34,11 +33,11 @@ use Rattle.jump.specs.Handles.{opened_row}
 use Rattle.adtg.specs.Plans.{blank, plan_beside, Checked}
 use Rattle.grammar.specs.Grammar.{Row}
 use Rattle.batch.specs.Spans.{owner_of, start_in, is_row, Span, span_of, moved, span_in, spans_in, rows_of, spans_by}
-use Rattle.demands.specs.Checks.{Refusals, Silent, Never, Nothing, ◌then◌, first, second, Exactly, Faults, Of, of, Lent, lent, Sizes, over, within, Short, short, Missing, missing, NoRoom, no_room}
+use Rattle.demands.specs.Checks.{Refusals, Silent, Never, ◌then◌, first, second, Exactly, Of, of, lent, Sizes, Missing, NoRoom, no_room}
 use Rattle.demands.specs.RowFaults.{FieldFault}
 use Rattle.demands.specs.PlanFaults.{PlanFault, differs, BitFault, this_bit, later_bit, PlanOpenFaults, StopFault, in-stop, behind_stop, HeldFault, held_variable, held_width, JumpFault, on_the_way, in-column, way_to, PlannedFaults, PlannedRowFaults, BatchFault, in_row, of_other, behind_row, found_spans}
 use Rattle.demands.proofs.RowExactly.{Foreign, exactly_field, field_codes}
-use Rattle.demands.proofs.Exactly.{exactly_ways, same_error, moved_error, ok_silent, exactly_ok, exactly_then, exactly_last, exactly_alike, exactly_about, about_then, about_last, exactly_check, exactly_whole, exactly_missing, exactly_room, exactly_size, exactly_sized, single_fault, never_then, never_of, never_short, never_missing}
+use Rattle.demands.proofs.Exactly.{exactly_ways, same_error, moved_error, ok_silent, exactly_then, exactly_last, exactly_about, about_then, about_last, exactly_check, exactly_whole, exactly_missing, exactly_size, exactly_sized, single_fault, never_then, never_of, never_short, never_missing}
 
 -- Places without a row.
 pub fixed_place_exactly : (p : Plan) (k : ℕ) → Exactly (fixed_place p k) (Of input.Column (Missing (planned_count p) k))

@@ -1,7 +1,7 @@
 -- Demand 3: plans, for every schema, top or nested, of a valid schema file.
 -- Assumes nothing.
 use Prim.Native.Nat.{ℕ, zero, suc, ◌≤◌, ◌<◌}
-use mathlib.Core.List.{List, [], ◌∷◌, map}
+use mathlib.Core.List.{List, [], ◌∷◌}
 use mathlib.Core.Bool.{Bool, true, false, true≢false}
 use mathlib.Core.Path.{◌≡◌, refl, sym, ap, ◌∙◌}
 use native.Mathlib.Omega.{arith}
@@ -10,7 +10,7 @@ use lib.Seq.{ext_get_or}
 use lib.Dec.{eqb, ltb}
 use borrow.Author.Tests.{ltb-true}
 use Rattle.wire.specs.declared.error.Input.TheVariants as input
-use Rattle.wire.specs.Read.{Bytes, AreBytes, Read, ok, pick, check, about, sized_by, sized}
+use Rattle.wire.specs.Read.{Bytes, AreBytes, ok, pick, check, about, sized_by, sized}
 use Rattle.wire.proofs.Pieces.{ok_ok}
 use Rattle.column.specs.declared.column.Column.{Column}
 use Rattle.column.specs.Types.{types, kind_in, kind_of}

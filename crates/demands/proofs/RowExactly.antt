@@ -16,7 +16,7 @@ use Rattle.wire.specs.Read.{Bytes, Read, ok, bad, ◌>>=◌, pick, check, about,
 use Rattle.wire.specs.Bits.{bit_set}
 use Rattle.wire.specs.Integers.{int_at}
 use Rattle.wire.proofs.Laws.{int_fits}
-use Rattle.wire.proofs.Pieces.{bad_ok, bind_ok, check_ok, about_ok, ok_ok}
+use Rattle.wire.proofs.Pieces.{bind_ok, check_ok, about_ok, ok_ok}
 use Rattle.column.specs.declared.column.Column.{Column}
 use Rattle.column.specs.declared.field.Field.{Field}
 use Rattle.column.specs.declared.types.Kind.{Kind}
@@ -32,10 +32,10 @@ use Rattle.walk.proofs.Found.{Stepped, stayed, moved, step_told, known_ok}
 use Rattle.walk.proofs.UpdateLaws.{length_numbered, number_at_lem, marked_chapter, look_update_chapter, look_update_unchanged, look_update_null, look_update_found}
 use Rattle.walk.proofs.UpdateFound.{update_end_told, field_there, examined_looks_up}
 use Rattle.encode.proofs.Walks.{clear_at}
-use Rattle.grammar.proofs.RowErrors.{OfError, no_error, an_error, of_bind, of_check, of_other, of_told, of_opened, of_row, of_update}
-use Rattle.demands.specs.Checks.{Refusals, Never, ◌then◌, Where, Exactly, Faults, Of, of, lent, Sizes, Short, short, Missing, missing}
+use Rattle.grammar.proofs.RowErrors.{OfError, no_error, an_error, of_bind, of_check, of_other, of_opened, of_row, of_update}
+use Rattle.demands.specs.Checks.{Never, ◌then◌, Where, Exactly, Of, lent, Sizes, Short, short, Missing}
 use Rattle.demands.specs.RowFaults.{FirstBroken, this, later, MapFault, broken_by, LengthFault, too_long, too_wide, odd, FieldFault, in-prefix, length_rule, in_bytes, in-width, FieldsFault, in_field, behind_field, no_field, OpenFaults, RowFaults, walked_to, LookUpFaults, UpdateOpenFaults, UpdateFaults, LookUpdateFaults, CurrentFaults}
-use Rattle.demands.proofs.Exactly.{exactly_of, of_exactly, alone, of_first, exactly_before, exactly_answered, exactly_where, exactly_where_not, short_codes, missing_codes, never_where, same_error, exactly_ok, exactly_then, exactly_last, exactly_alike, single_fault, exactly_about, about_then, about_last, exactly_whole, exactly_missing, exactly_size, exactly_sized, never_then, never_of}
+use Rattle.demands.proofs.Exactly.{exactly_of, of_exactly, alone, of_first, exactly_before, exactly_answered, exactly_where, exactly_where_not, short_codes, missing_codes, never_where, exactly_then, exactly_last, exactly_about, about_then, about_last, exactly_whole, exactly_missing, exactly_size, exactly_sized, never_then, never_of}
 
 -- A length: its error is 14 exactly where it breaks a rule, else 0.
 

@@ -4,7 +4,6 @@ use Prim.Native.Nat.{ℕ, zero, suc, ◌+◌, ◌-◌, ◌≤◌, ◌<◌}
 use mathlib.Core.Path.{◌≡◌, refl, ap, ◌∙◌}
 use mathlib.Core.List.{List, [], ◌∷◌}
 use mathlib.Core.Bool.{Bool, true, false}
-use mathlib.Core.Logic.{◌↔◌}
 use mathlib.Core.Option.{Option, none, some}
 use native.Mathlib.Omega.{arith}
 use lib.ListN.{length, get_or}
@@ -22,10 +21,10 @@ use Rattle.grammar.proofs.Ends.{row_ends, update_ends}
 use Rattle.grammar.proofs.Sections.{Says, says, follows_after, known_ok}
 use Rattle.grammar.proofs.RowErrors.{OfError, no_error, an_error, of_bind, of_check, of_other, of_row, of_update}
 use Rattle.section.specs.Table.{room_for, fitting, rows_fitting, rows_checked, rows_listed}
-use Rattle.demands.specs.Checks.{Refusals, Never, ◌then◌, first, second, Exactly, Of, Lent, lent, Sizes, over, within, NoRoom, no_room}
+use Rattle.demands.specs.Checks.{Refusals, Never, ◌then◌, Exactly, Of, Lent, lent, Sizes, within, NoRoom}
 use Rattle.demands.specs.FileFaults.{schemas_in}
 use Rattle.demands.specs.SectionFaults.{NoToken, HasId, of_child, of_change, of_delete, a_change, a_delete, SectionFault, no_token, unknown_token_lem, bytes_after, in-id, unknown_id, alone, in-parent, in-child, in-change, behind_parent, behind_child, behind_change, behind_delete, rows_in, CheckFaults, ListFaults}
-use Rattle.demands.proofs.Exactly.{exactly_of, never_room, exactly_then, exactly_last, exactly_about, exactly_room, over_iff, never_then, never_of}
+use Rattle.demands.proofs.Exactly.{exactly_of, never_room, exactly_then, exactly_last, exactly_about, exactly_room, never_then, never_of}
 use Rattle.demands.proofs.RowExactly.{exactly_row_end_alone, exactly_update_end_alone, foreign, never_row, never_update}
 use Rattle.demands.proofs.FileExactly.{sizes_one, exactly_front, file_never_room, file_never_size}
 

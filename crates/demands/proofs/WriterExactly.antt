@@ -1,6 +1,6 @@
 -- The row writers refuse exactly what their definition of faults says.
 -- Assumes nothing.
-use Prim.Native.Nat.{ℕ, zero, suc, ◌+◌, ◌*◌, ◌-◌, ◌%◌, ◌^◌, ◌≤◌, ◌<◌}
+use Prim.Native.Nat.{ℕ, zero, suc, ◌+◌, ◌*◌, ◌-◌, ◌^◌, ◌≤◌, ◌<◌}
 use mathlib.Core.Path.{◌≡◌, refl, sym, ap, ◌∙◌}
 use mathlib.Core.List.{List, [], ◌∷◌}
 use mathlib.Core.Bool.{Bool, true, false, true≢false}
@@ -8,24 +8,20 @@ use mathlib.Core.Logic.{◌↔◌, ⊎_elim}
 use native.Mathlib.Omega.{arith}
 use lib.ListN.{length}
 use lib.Dec.{leb, ltb, eqb}
-use borrow.Author.Tests.{leb-true, leb-false, le-leb, lt-leb, ltb-true, ltb-false, le-ltb, lt-ltb, eqb-true, eqb-false, eq-eqb, ne_eqb}
+use borrow.Author.Tests.{leb-false, lt-leb, ltb-false, le-ltb, eqb-false, ne_eqb}
 use Rattle.wire.specs.declared.error.Input.{Input}
 use Rattle.wire.specs.declared.error.Input.TheVariants as input
-use Rattle.wire.specs.Read.{Bytes, Read, ok, bad, ◌>>=◌, pick, check, about}
+use Rattle.wire.specs.Read.{Bytes, Read, bad, ◌>>=◌, pick, check}
 use Rattle.wire.proofs.Pieces.{bad_ok}
 use Rattle.column.specs.declared.column.Column.{Column}
-use Rattle.column.specs.declared.types.Kind.{Kind}
-use Rattle.column.specs.declared.types.Kind.TheVariants.{Fixed, Variable, Wide, Chapter, Unknown}
-use Rattle.column.specs.Types.{kind_of, variable_kind, chapter_kind}
-use Rattle.column.specs.Columns.{kind, width, is_variable, is_chapter, is_nullable, prefix_size, length_error}
-use Rattle.encode.specs.Entries.{Entry, value, null, unchanged, Given, given_at, givens_from, is_entry, are_entries, entries_of}
-use Rattle.encode.specs.Encoding.{original_bytes, update_data}
+use Rattle.column.specs.Columns.{width, is_variable, is_chapter, is_nullable, prefix_size, length_error}
+use Rattle.encode.specs.Entries.{Entry, value, null, unchanged, given_at, givens_from, is_entry, are_entries}
 use Rattle.encode.specs.Steps.{stands_in, row_in}
 use Rattle.encode.specs.Writers.{length_stands, in_original, in_update, entries_stand, entries_in, writing, write_original, write_update}
-use Rattle.demands.specs.Checks.{Refusals, Silent, Never, Nothing, ◌then◌, first, second, Exactly, Faults, Of, of, Missing, missing, NoRoom, no_room}
-use Rattle.demands.specs.RowFaults.{LengthFault, too_long, too_wide, odd}
+use Rattle.demands.specs.Checks.{Never, Exactly, Of, of, Missing, missing}
+use Rattle.demands.specs.RowFaults.{LengthFault}
 use Rattle.demands.specs.WriterFaults.{CountFault, not_one_each, NoEntry, no_entry, CantStand, not_nullable, wrong_width, wrong_length, over_prefix, unchanged_there, chapter_value, chapter_null, EntryFault, this_entry, later_entry, WriteFaults}
-use Rattle.demands.proofs.Exactly.{exactly_then, exactly_fitting, exactly_about, exactly_check, exactly_missing, moved_error, never_then, never_of, never_missing, never_room}
+use Rattle.demands.proofs.Exactly.{exactly_then, exactly_fitting, exactly_about, exactly_check, moved_error, never_then, never_of, never_missing, never_room}
 use Rattle.demands.proofs.RowExactly.{length_fault, length_either}
 
 -- 18: the entries.

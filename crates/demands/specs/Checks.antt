@@ -2,7 +2,7 @@
 -- answer. Each check says in the words of document 01's table when it refuses, with which code (the paper's number), at which offset (its
 -- place) and of which input.
 -- Assumes nothing.
-use Rattle.std.specs.Prelude.{ℕ, ◌+◌, ◌*◌, ◌≤◌, ◌<◌, ◌≡◌, List, [], ◌∷◌, Bool, true, ◌↔◌, length}
+use Rattle.std.specs.Prelude.{ℕ, ◌+◌, ◌*◌, ◌≤◌, ◌<◌, ◌≡◌, List, ◌∷◌, Bool, true, ◌↔◌, length}
 use Rattle.wire.specs.declared.error.Input.{Input}
 use Rattle.wire.specs.Read.{Bytes, Read, bad, limit}
 

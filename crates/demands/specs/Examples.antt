@@ -4,7 +4,7 @@ use Rattle.std.specs.Prelude.{ℕ, List, [], ◌∷◌, map, length}
 use Rattle.wire.specs.Read.{Bytes, Read, ok, bad}
 use Rattle.header.specs.declared.header.Header.{Header}
 use Rattle.header.specs.Header.{header_of}
-use Rattle.tree.specs.Schemas.{Entry, entry, Schema, schema, read_schemas}
+use Rattle.tree.specs.Schemas.{Entry, entry, Schema, read_schemas}
 use Rattle.walk.specs.Rows.{Answer, field, null, chapter}
 use Rattle.grammar.specs.Grammar.{Row}
 use Rattle.section.specs.Table.{row_numbers, rows_checked, rows_listed}

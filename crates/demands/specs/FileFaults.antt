@@ -1,8 +1,8 @@
 -- Promise: what can be wrong with a schema file (document 01, "Column sheet", and its table of refusals), exactly. `State` is where the reader
 -- stands: what is left of the file, its offset, the counts so far added up, the child ids so far.
 -- Assumes nothing.
-use Rattle.std.specs.Prelude.{ℕ, zero, suc, ◌+◌, ◌*◌, ◌≤◌, ◌<◌, ◌≡◌, List, [], ◌∷◌, ◌++◌, true, false, length, get_or}
-use Rattle.wire.specs.Read.{Bytes, Read, ok, bad, limit}
+use Rattle.std.specs.Prelude.{ℕ, zero, suc, ◌+◌, ◌≤◌, ◌<◌, ◌≡◌, List, [], ◌∷◌, ◌++◌, true, false, length, get_or}
+use Rattle.wire.specs.Read.{Bytes, Read, ok, bad}
 use Rattle.column.specs.declared.column.Column.{Column}
 use Rattle.column.specs.declared.types.Kind.TheVariants.{Chapter, Unknown}
 use Rattle.column.specs.Types.{kind_of, variable_kind}

@@ -1,6 +1,6 @@
 -- Promise: what is refused through a plan, of any numbers (document 01, "Looking up a field", and its table of refusals), exactly.
 -- Assumes nothing.
-use Rattle.std.specs.Prelude.{ℕ, suc, ◌+◌, ◌/◌, ◌<◌, ◌≡◌, List, [], ◌∷◌, map, Bool, true, false, length, drop, eqb}
+use Rattle.std.specs.Prelude.{ℕ, suc, ◌+◌, ◌/◌, ◌<◌, ◌≡◌, List, [], ◌∷◌, map, true, false, length, drop}
 use Rattle.wire.specs.declared.error.Input.{Input}
 use Rattle.wire.specs.declared.error.Input.TheVariants as input
 use Rattle.wire.specs.Read.{Bytes, Read, ok, bad}
@@ -18,7 +18,7 @@ use Rattle.plan.specs.Plans.{planned_word, planned_mark, planned_gap, planned_co
 use Rattle.jump.specs.Jumps.{stops_to, by_bit}
 use Rattle.grammar.specs.Grammar.{Row}
 use Rattle.batch.specs.Spans.{owner_of, start_in, is_row, Span}
-use Rattle.demands.specs.Checks.{Refusals, Silent, ◌then◌, Of, Lent, lent, Sizes, Short, Missing}
+use Rattle.demands.specs.Checks.{Refusals, Silent, ◌then◌, Of, lent, Sizes, Short, Missing}
 use Rattle.demands.specs.RowFaults.{FieldFault}
 
 -- 17: the plan is not the one that is made now; at 0

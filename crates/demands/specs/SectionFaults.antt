@@ -1,6 +1,6 @@
 -- Promise: what can be wrong with a row section (document 01, "Rows", and its table of refusals), exactly.
 -- Assumes nothing.
-use Rattle.std.specs.Prelude.{ℕ, ◌+◌, ◌≤◌, ◌<◌, ◌≡◌, List, [], ◌∷◌, length, get_or}
+use Rattle.std.specs.Prelude.{ℕ, ◌+◌, ◌≤◌, ◌<◌, ◌≡◌, List, [], length, get_or}
 use Rattle.std.proofs.Math.Option.{none, some}
 use Rattle.wire.specs.declared.error.Input.TheVariants as input
 use Rattle.wire.specs.Read.{Bytes, Read, ok, bad}
@@ -10,7 +10,7 @@ use Rattle.tree.specs.Schemas.{Schema, child_number}
 use Rattle.grammar.specs.Grammar.{Before, other, after, columns_at, Row}
 use Rattle.grammar.specs.Reader.{id_at, section}
 use Rattle.section.specs.Table.{room_for}
-use Rattle.demands.specs.Checks.{Refusals, ◌then◌, Of, lent, Sizes, NoRoom}
+use Rattle.demands.specs.Checks.{Refusals, ◌then◌, Of, NoRoom}
 use Rattle.demands.specs.FileFaults.{FileFault, schemas_in}
 use Rattle.demands.specs.RowFaults.{RowFaults, UpdateFaults}
 

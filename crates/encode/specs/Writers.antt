@@ -1,13 +1,13 @@
 -- Promise: the two row writers: their checks in the paper's order, the row, and what the output then holds.
 -- Assumes nothing.
-use Rattle.std.specs.Prelude.{ℕ, suc, ◌+◌, ◌*◌, ◌-◌, ◌^◌, ◌≡◌, List, [], ◌∷◌, Bool, true, false, not, length, leb, ltb, eqb}
+use Rattle.std.specs.Prelude.{ℕ, suc, ◌*◌, ◌-◌, ◌^◌, ◌≡◌, List, [], ◌∷◌, Bool, true, false, length, leb, ltb, eqb}
 use Rattle.wire.specs.declared.error.Input.TheVariants as input
 use Rattle.wire.specs.declared.output.Written.{Written}
 use Rattle.wire.specs.Read.{Bytes, Read, ok, bad, ◌>>=◌, pick, check, about, sized}
 use Rattle.wire.specs.Output.{put, size_of, fitting, told_written}
 use Rattle.column.specs.declared.column.Column.{Column}
 use Rattle.column.specs.Columns.{width, is_variable, is_chapter, is_nullable, prefix_size, length_error}
-use Rattle.encode.specs.Entries.{Entry, value, null, unchanged, Given, givens_from, are_entries, entries_of}
+use Rattle.encode.specs.Entries.{Entry, value, null, unchanged, givens_from, are_entries, entries_of}
 use Rattle.encode.specs.Encoding.{original_bytes, update_data}
 
 -- A value of so many bytes can stand in a column: a chapter has none; a fixed type takes its width; a length must be one that

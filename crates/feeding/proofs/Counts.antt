@@ -1,9 +1,9 @@
 -- The rows that a state counts are the whole 07 and 87 elements so far.
 -- Assumes nothing.
-use Prim.Native.Nat.{ℕ, zero, suc, ◌+◌, ◌-◌, max, ◌≤◌, ◌<◌}
+use Prim.Native.Nat.{ℕ, zero, suc, ◌+◌, ◌-◌, max, ◌≤◌}
 use mathlib.Core.List.{List, [], ◌∷◌, ◌++◌}
 use mathlib.Core.Bool.{Bool, true, false}
-use mathlib.Core.Path.{◌≡◌, refl, sym, ap, ◌∙◌, subst}
+use mathlib.Core.Path.{◌≡◌, refl, sym, ap, ◌∙◌}
 use native.Mathlib.Omega.{arith}
 use lib.ListN.{length, get_or, take, drop}
 use lib.Seq.{take-suc, take-length}
@@ -14,10 +14,10 @@ use Rattle.wire.specs.Integers.{read_int}
 use Rattle.column.specs.declared.column.Column.{Column}
 use Rattle.column.specs.Columns.{width, is_variable, prefix_size, length_error}
 use Rattle.column.specs.Fields.{allowed}
-use Rattle.walk.specs.Presence.{no_column, Mark}
+use Rattle.walk.specs.Presence.{Mark}
 use Rattle.walk.specs.Data.{data_opened}
 use Rattle.tree.specs.Schemas.{Schema, child_number}
-use Rattle.grammar.specs.Grammar.{Before, columns_at, Row}
+use Rattle.grammar.specs.Grammar.{Before, Row}
 use Rattle.grammar.specs.Reader.{Token, parent_token, child_token, change_token, delete_token, done_token, unknown_token, token_of, known_child, follows, section}
 use Rattle.feeding.specs.Answers.{or_none, most_rows, whole_rows}
 use Rattle.feeding.specs.Machine.{Kind, parent_row, child_row, change_row, adds, is_update, columns_for, column_for, marks_for, has_for, map_size, from, Stage, child_id, change_id, delete_id, maps, prefix, State, between, keep, skip, finished, stopped, settle, body_of, seek, seek_from, mapped, row_by, row_from, tokened, measured, judge, byte, feed, start, closed}

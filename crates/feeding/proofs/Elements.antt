@@ -8,7 +8,7 @@ use native.Mathlib.Omega.{arith}
 use lib.ListN.{length, take}
 use lib.Dec.{leb}
 use borrow.Author.Tests.{leb-true, leb-false}
-use Rattle.wire.specs.Read.{Bytes, Read, ok, bad, ◌>>=◌}
+use Rattle.wire.specs.Read.{Bytes, Read, ok, bad}
 use Rattle.wire.proofs.Pieces.{bad_ok, ok_ok}
 use Rattle.tree.specs.Schemas.{Schema}
 use Rattle.grammar.specs.Grammar.{Element, other, Split, done, Row, rows}

@@ -1,13 +1,13 @@
 -- Fed byte by byte, the state comes to the answer of the whole reader.
 -- Assumes nothing.
-use Prim.Native.Nat.{ℕ, zero, suc, ◌+◌, ◌*◌, ◌-◌, ◌≤◌, ◌<◌}
+use Prim.Native.Nat.{ℕ, zero, suc, ◌+◌, ◌-◌, ◌≤◌, ◌<◌}
 use mathlib.Core.List.{List, [], ◌∷◌, ◌++◌}
 use mathlib.Core.Bool.{Bool, true, false}
 use mathlib.Core.Path.{◌≡◌, refl, sym, ap, ◌∙◌, subst}
 use native.Mathlib.Omega.{arith}
 use lib.ListN.{length, get_or, drop, length-append, length-drop}
 use lib.Seq.{drop-cons}
-use lib.Dec.{eqb, ltb}
+use lib.Dec.{ltb}
 use borrow.Author.Tests.{eq-eqb, ne_eqb}
 use Rattle.wire.specs.declared.error.Input.{Input}
 use Rattle.wire.specs.declared.error.Input.TheVariants.{Single}
@@ -19,16 +19,16 @@ use Rattle.column.specs.declared.column.Column.{Column}
 use Rattle.column.specs.Columns.{width, is_variable, prefix_size, length_error}
 use Rattle.column.specs.Fields.{allowed}
 use Rattle.column.proofs.Laws.{variable_short}
-use Rattle.walk.specs.Presence.{no_column, Mark, no_mark}
+use Rattle.walk.specs.Presence.{Mark, no_mark}
 use Rattle.walk.specs.Data.{data_opened}
 use Rattle.walk.proofs.Laws.{bind_of, bind_bad, opened_short, end_closed}
 use Rattle.walk.proofs.UpdateLaws.{update_short, update_end_closed}
 use Rattle.tree.specs.Schemas.{Schema, child_number}
-use Rattle.grammar.specs.Grammar.{Before, other, columns_at, Row, rows}
+use Rattle.grammar.specs.Grammar.{Before, other, Row, rows}
 use Rattle.section.specs.Table.{row_count}
 use Rattle.grammar.specs.Reader.{Token, parent_token, child_token, change_token, delete_token, done_token, unknown_token, token_of, known_child, follows, element, scan, elements, section}
-use Rattle.feeding.specs.Machine.{Kind, parent_row, child_row, change_row, behind, adds, is_update, columns_for, column_for, marks_for, has_for, map_size, from, Stage, child_id, change_id, delete_id, maps, prefix, State, keep, skip, finished, stopped, between, settle, body_of, seek, seek_from, mapped, row_by, row_from, tokened, measured, judge, byte, feed, start, closed}
-use Rattle.feeding.proofs.Left.{tally, fields_of, onward, left_at, left, column_left, left_rest, left_settled, left_seek_from, left_token, left_judged, nothing_yet, size, Seated}
+use Rattle.feeding.specs.Machine.{Kind, parent_row, child_row, change_row, is_update, columns_for, column_for, marks_for, has_for, map_size, from, Stage, child_id, change_id, delete_id, maps, prefix, State, keep, skip, finished, stopped, between, settle, body_of, seek, seek_from, mapped, row_by, row_from, tokened, measured, judge, byte, feed, start, closed}
+use Rattle.feeding.proofs.Left.{fields_of, onward, left_at, left, column_left, left_rest, left_settled, left_seek_from, left_token, left_judged, nothing_yet, size, Seated}
 
 pub prefix_positive : (c : Column) → 0 < prefix_size c
 unfolding prefix_size

@@ -1,34 +1,33 @@
 -- What the whole reader has left to do where a state stands, and that judging a whole piece does not change it.
 -- Assumes nothing.
-use Prim.Native.Nat.{ℕ, zero, suc, ◌+◌, ◌*◌, ◌-◌, ◌≤◌, ◌<◌}
-use mathlib.Core.List.{List, [], ◌∷◌, ◌++◌}
+use Prim.Native.Nat.{ℕ, zero, suc, ◌+◌, ◌-◌, ◌≤◌, ◌<◌}
+use mathlib.Core.List.{List, [], ◌∷◌}
 use mathlib.Core.Bool.{Bool, true, false}
 use mathlib.Core.Option.{Option, none, some}
 use mathlib.Core.Path.{◌≡◌, refl, sym, ap, ◌∙◌}
 use native.Mathlib.Omega.{arith}
 use native.Mathlib.Nat.{add-zero}
 use lib.ListN.{length, get_or, take, drop, length-drop}
-use lib.Seq.{take-length, drop-cons, drop-drop}
-use lib.Dec.{eqb, ltb}
-use Rattle.wire.specs.declared.error.Input.TheVariants.{Single}
+use lib.Seq.{take-length, drop-cons}
+use lib.Dec.{eqb}
 use Rattle.wire.specs.Read.{Bytes, Read, ok, bad, ◌>>=◌, pick, check, cut, whole}
 use Rattle.wire.specs.Integers.{value_of, int_at, read_int}
-use Rattle.wire.proofs.Laws.{whole_fits, whole_short, int_fits}
+use Rattle.wire.proofs.Laws.{whole_fits, int_fits}
 use Rattle.wire.proofs.Pieces.{Piece, cut_is, bind_same, bind_bind, bad_ok, ok_ok}
 use Rattle.column.specs.declared.column.Column.{Column}
 use Rattle.column.specs.declared.field.Field.{Field}
 use Rattle.column.specs.Columns.{width, is_variable, prefix_size, length_error}
 use Rattle.column.specs.Fields.{field, allowed, bytes_at, variable_at, field_at}
-use Rattle.walk.specs.Presence.{no_column, Mark, no_mark, marks}
-use Rattle.walk.specs.Rows.{Place, place, past, step, walk, row_end}
-use Rattle.walk.specs.Updates.{numbered, update_end}
+use Rattle.walk.specs.Presence.{Mark, no_mark}
+use Rattle.walk.specs.Rows.{place, past, step, walk, row_end}
+use Rattle.walk.specs.Updates.{update_end}
 use Rattle.walk.specs.Data.{data_end, data_opened, data_marks}
 use Rattle.walk.proofs.UpdateLaws.{length_numbered}
 use Rattle.walk.proofs.Data.{data_column}
 use Rattle.walk.proofs.Laws.{bind_of, length_marks}
 use Rattle.tree.specs.Schemas.{Schema, child_number, or0}
-use Rattle.grammar.specs.Grammar.{Element, parent_element, child_element, change_element, delete_element, Before, other, after, columns_at, Row, rows}
-use Rattle.grammar.specs.Reader.{Token, parent_token, child_token, change_token, delete_token, done_token, unknown_token, token_of, known_child, follows, id_at, element, scan}
+use Rattle.grammar.specs.Grammar.{Element, parent_element, child_element, change_element, delete_element, Before, other, after, columns_at, rows}
+use Rattle.grammar.specs.Reader.{Token, parent_token, child_token, change_token, delete_token, done_token, unknown_token, token_of, known_child, follows, element, scan}
 use Rattle.feeding.specs.Machine.{Kind, parent_row, child_row, change_row, behind, adds, is_update, columns_for, column_for, marks_for, has_for, map_size, from, Stage, child_id, change_id, delete_id, maps, prefix, State, keep, skip, finished, stopped, between, settle, body_of, seek, seek_from, mapped, row_by, row_from, tokened, measured, judge}
 use Rattle.feeding.proofs.Maps.{fields_from, data_piece}
 

@@ -6,11 +6,11 @@ use mathlib.Core.Bool.{Bool, true, false, not}
 use mathlib.Core.Path.{◌≡◌, refl, sym, ap, ◌∙◌}
 use native.Mathlib.Omega.{arith}
 use native.Mathlib.Nat.{add-zero}
-use lib.ListN.{length, get_or, take, drop, length-drop, get_or-append}
+use lib.ListN.{length, drop, length-drop, get_or-append}
 use lib.Seq.{drop-drop, drop-append-le}
 use lib.Dec.{eqb}
 use Rattle.wire.specs.declared.error.Input.TheVariants.{Single}
-use Rattle.wire.specs.Read.{Bytes, Read, ok, bad, ◌>>=◌, pick, check, whole}
+use Rattle.wire.specs.Read.{Bytes, Read, ok, bad, ◌>>=◌, pick, check}
 use Rattle.wire.specs.Bits.{bit_at, bit_set, map_bytes}
 use Rattle.wire.proofs.Laws.{whole_fits}
 use Rattle.wire.proofs.Pieces.{Piece, bind_same, bind_bind}

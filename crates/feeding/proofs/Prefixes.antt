@@ -1,20 +1,20 @@
 -- The whole reader on longer and longer bytes: a refusal but 1 stands, a byte behind the done token is 15, and the rows so far only grow.
 -- Assumes nothing.
-use Prim.Native.Nat.{ℕ, zero, suc, ◌+◌, max, ◌≤◌, ◌<◌}
+use Prim.Native.Nat.{ℕ, zero, suc, ◌+◌, ◌≤◌}
 use mathlib.Core.List.{List, [], ◌∷◌, ◌++◌}
 use mathlib.Core.Path.{◌≡◌, refl, sym, ap, ◌∙◌}
 use native.Mathlib.Omega.{arith}
-use lib.ListN.{length, take, length-append}
+use lib.ListN.{length, length-append}
 use lib.Seq.{take-append-le}
 use Rattle.wire.specs.declared.error.Input.{Input}
 use Rattle.wire.specs.declared.error.Input.TheVariants.{Single}
-use Rattle.wire.specs.Read.{Bytes, Read, ok, bad, ◌>>=◌}
+use Rattle.wire.specs.Read.{Bytes, Read, ok, bad}
 use Rattle.wire.proofs.Pieces.{bad_ok}
 use Rattle.tree.specs.Schemas.{Schema}
 use Rattle.grammar.specs.Grammar.{Row}
 use Rattle.grammar.specs.Reader.{section}
 use Rattle.grammar.proofs.Errors.{short_at_length}
-use Rattle.feeding.specs.Answers.{or_none, most_rows, whole_rows}
+use Rattle.feeding.specs.Answers.{most_rows, whole_rows}
 use Rattle.feeding.specs.Machine.{State, between, keep, skip, finished, stopped, byte, feed, start, closed}
 use Rattle.section.specs.Table.{row_count}
 use Rattle.feeding.proofs.Fed.{section_count, whole_is_fed, Stands, stands, feed_append, feed_stopped}

@@ -5,7 +5,7 @@ use Rattle.std.specs.Prelude.{ℕ, zero, suc, max, List, [], ◌∷◌, ◌++◌
 use Rattle.wire.specs.declared.error.Input.{Input}
 use Rattle.wire.specs.declared.error.Input.TheVariants as input
 use Rattle.wire.specs.Errors.{input_number}
-use Rattle.wire.specs.Read.{Bytes, Read, ok, bad, ◌>>=◌, pick, limit}
+use Rattle.wire.specs.Read.{Bytes, Read, ok, bad, pick, limit}
 use Rattle.tree.specs.Schemas.{Schema, read_schemas}
 use Rattle.grammar.specs.Reader.{section}
 use Rattle.section.specs.Table.{rows_checked, row_count}

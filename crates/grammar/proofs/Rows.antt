@@ -6,8 +6,6 @@ use mathlib.Core.List.{List, [], ◌∷◌, ◌++◌}
 use mathlib.Core.Bool.{Bool, true, false, true≢false}
 use native.Mathlib.Omega.{arith}
 use lib.ListN.{length, drop}
-use lib.Dec.{leb, eqb}
-use borrow.Author.Tests.{le-leb, leb-true, eqb-true}
 use Rattle.wire.specs.Read.{Bytes, ok, pick, cut}
 use Rattle.wire.specs.Integers.{value_of, int_at}
 use Rattle.wire.proofs.Pieces.{Piece, cut_length, piece, join, front, back, bind_ok, ok_ok, cut_is, piece_from, piece_to}

@@ -11,7 +11,7 @@ use lib.ListN.{length, drop, get_or, length-append, length-drop}
 use lib.Seq.{drop-cons, drop-length}
 use lib.Dec.{eqb}
 use borrow.Author.Tests.{eqb-true, eq-eqb}
-use Rattle.wire.specs.Read.{Bytes, Read, ok, ◌>>=◌, pick, check, cut}
+use Rattle.wire.specs.Read.{Bytes, Read, ok, pick, check, cut}
 use Rattle.wire.specs.Integers.{int_at}
 use Rattle.wire.proofs.Laws.{whole_fits}
 use Rattle.wire.proofs.Pieces.{between, here, bad_ok, bind_ok, check_ok, ok_ok, whole_ok, whole_is, cut_is}

@@ -2,7 +2,7 @@
 -- the other: a whole is its pieces joined by `++`, and a rule says what each piece has to be.
 -- Assumes nothing.
 use Rattle.std.specs.Prelude.{ℕ, ◌+◌, ◌*◌, ◌/◌, ◌%◌, ◌≤◌, ◌≡◌, List, [], ◌∷◌, ◌++◌, map, Bool, true, false, length, eqb}
-use Rattle.std.proofs.Math.Option.{Option, some}
+use Rattle.std.proofs.Math.Option.{some}
 use Rattle.wire.specs.Read.{Bytes}
 use Rattle.wire.specs.Integers.{value_of}
 use Rattle.wire.specs.Bits.{map_bytes}

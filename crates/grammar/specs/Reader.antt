@@ -1,6 +1,6 @@
 -- Promise: the reader of a row section, over the whole input and a position in it, in the order of checks of document 01.
 -- Assumes nothing.
-use Rattle.std.specs.Prelude.{ℕ, zero, suc, ◌+◌, ◌-◌, List, [], ◌∷◌, Bool, true, false, length, get_or, eqb}
+use Rattle.std.specs.Prelude.{ℕ, zero, suc, ◌+◌, ◌-◌, List, [], ◌∷◌, Bool, false, length, get_or, eqb}
 use Rattle.std.proofs.Math.Option.{Option, none, some}
 use Rattle.wire.specs.declared.error.Input.TheVariants as input
 use Rattle.wire.specs.Read.{Bytes, Read, ok, bad, ◌>>=◌, pick, check, cut, whole}

@@ -1,8 +1,8 @@
 -- Promise: the header (document 01, "Header and handler options"): nine bytes, checked from left to right.
 -- Assumes nothing.
-use Rattle.std.specs.Prelude.{ℕ, List, [], ◌∷◌, ◌++◌, leb, eqb}
+use Rattle.std.specs.Prelude.{ℕ, [], ◌∷◌, ◌++◌, leb, eqb}
 use Rattle.wire.specs.declared.error.Input.TheVariants as input
-use Rattle.wire.specs.Read.{Bytes, Read, ok, bad, ◌>>=◌, check, about, refused, sized, byte_at, constants}
+use Rattle.wire.specs.Read.{Bytes, Read, ok, ◌>>=◌, check, about, refused, sized, byte_at, constants}
 use Rattle.wire.specs.Output.{fitting}
 use Rattle.header.specs.declared.header.Header.{Header}
 use Rattle.header.specs.declared.header.HeaderRead.{HeaderRead}

@@ -1,7 +1,7 @@
 -- The fields of row data in progress: what passes a column, what a column's field leads to, and the columns in their slots.
 -- Assumes nothing.
 use Prim.Native.Nat.{ℕ, zero, suc, ◌+◌, ◌-◌, ◌≤◌, ◌<◌, max, min}
-use mathlib.Core.List.{List, [], ◌∷◌, map}
+use mathlib.Core.List.{List, [], ◌∷◌}
 use mathlib.Core.Bool.{Bool, true, false}
 use mathlib.Core.Option.{Option, none, some}
 use mathlib.Core.Path.{◌≡◌, refl, sym, ap, ◌∙◌}
@@ -17,7 +17,7 @@ use Rattle.column.specs.declared.field.Field.{Field}
 use Rattle.column.specs.Fields.{field_at}
 use Rattle.column.proofs.Laws.{field_told}
 use Rattle.column.specs.Columns.{is_variable, width, prefix_size}
-use Rattle.walk.specs.Presence.{no_column, one, bit_of, no_mark, mark, present}
+use Rattle.walk.specs.Presence.{no_column, bit_of, no_mark, mark, present}
 use Rattle.walk.specs.Updates.{update_bytes, carried, carried_in}
 use Rattle.walk.specs.Data.{data_has, data_marks}
 use Rattle.walk.proofs.Laws.{mark_at}

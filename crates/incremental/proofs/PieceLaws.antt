@@ -35,7 +35,7 @@ use Rattle.grammar.specs.Grammar.{Before, other}
 use Rattle.grammar.specs.Reader.{token_of, known_child, follows}
 use Rattle.grammar.proofs.RowErrors.{RowErrorAt, short, chapter_bit, force_rule, length_rule, of_told, of_int, of_opened, of_update}
 use Rattle.section.proofs.HeadLaws.{number_none, number_some}
-use Rattle.feeding.specs.Machine.{Kind, parent_row, child_row, change_row, is_update, columns_for, column_for, map_size, child_id, change_id, delete_id, maps, prefix, State, between, keep, skip, finished, stopped, settle, body_of, seek_from, mapped, row_from, row_by, tokened, measured, judge, byte, feed}
+use Rattle.feeding.specs.Machine.{Kind, parent_row, child_row, change_row, is_update, columns_for, column_for, map_size, child_id, change_id, delete_id, maps, prefix, State, between, keep, skip, finished, stopped, settle, body_of, seek_from, mapped, row_from, row_by, tokened, measured, judge, feed}
 use Rattle.feeding.proofs.Bulk.{cut_two, keep_some, keep_all}
 use Rattle.incremental.specs.declared.record.Reader.{Reader}
 use Rattle.incremental.specs.declared.fields.Block.{Block}

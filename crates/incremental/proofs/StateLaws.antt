@@ -1,9 +1,9 @@
 -- Which state a record is, by its stage.
 -- Assumes nothing.
-use Prim.Native.Nat.{ℕ, zero, suc, ◌+◌, ◌-◌, ◌≤◌, ◌<◌}
+use Prim.Native.Nat.{ℕ, ◌+◌, ◌-◌, ◌≤◌, ◌<◌}
 use mathlib.Core.Bool.{Bool, true, false}
-use mathlib.Core.List.{List, []}
-use mathlib.Core.Path.{◌≡◌, refl, sym, ap, ◌∙◌}
+use mathlib.Core.List.{[]}
+use mathlib.Core.Path.{◌≡◌, refl, ap, ◌∙◌}
 use native.Mathlib.Omega.{arith}
 use lib.ListN.{take}
 use lib.Dec.{eqb, leb}
@@ -11,8 +11,7 @@ use borrow.Author.Tests.{eq-eqb, ne_eqb, le-leb, lt-leb, leb-false, eqb-false}
 use Rattle.wire.specs.declared.error.Input.{Input}
 use Rattle.wire.specs.declared.error.Input.TheVariants as input
 use Rattle.wire.specs.Read.{pick}
-use Rattle.feeding.specs.Machine.{Kind, parent_row, child_row, change_row, is_update, adds, behind, Stage, child_id, change_id, delete_id, maps, prefix, State, between, keep, skip, finished, stopped}
-use Rattle.grammar.specs.Grammar.{Before, other, after}
+use Rattle.feeding.specs.Machine.{parent_row, child_row, change_row, is_update, adds, behind, child_id, change_id, delete_id, maps, prefix, State, between, keep, skip, finished, stopped}
 use Rattle.incremental.specs.declared.record.Reader.{Reader}
 use Rattle.incremental.specs.Record.{before_by, kind_by, kind_in, held_in, map_in, stage_in, state_in}
 use Rattle.incremental.specs.Steps.{place_in, Sane, Came, ended, came, Stands}

@@ -7,7 +7,7 @@ use native.Mathlib.Omega.{arith}
 use lib.ListN.{length, get_or, drop, length-drop, take-append-drop}
 use lib.Seq.{drop-cons, drop-drop, drop-length}
 use Rattle.wire.specs.declared.error.Input.TheVariants as input
-use Rattle.wire.specs.Read.{Bytes, whole, cut}
+use Rattle.wire.specs.Read.{Bytes, cut}
 use Rattle.wire.proofs.Pieces.{cut_length}
 use Rattle.tree.specs.Schemas.{Schema}
 use Rattle.tree.specs.Table.{schema_slot, id_in}

@@ -8,7 +8,6 @@ use native.Mathlib.Omega.{arith}
 use lib.ListN.{length, take, length-append}
 use lib.Dec.{leb, eqb}
 use borrow.Author.Tests.{leb-true, le-leb, eqb-true, eq-eqb}
-use Rattle.wire.specs.declared.error.Input.TheVariants as input
 use Rattle.wire.specs.Read.{Bytes, AreBytes, ok, check, about, limit, sized_by, sized, cut, whole, byte_at, constants}
 use Rattle.wire.specs.Integers.{read_int, int_bytes}
 use Rattle.wire.proofs.Laws.{length_int, whole_fits, sized_within, fitting_fits}

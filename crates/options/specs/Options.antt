@@ -1,8 +1,8 @@
 -- Promise: handler options (document 01, "Header and handler options").
 -- Assumes nothing.
-use Rattle.std.specs.Prelude.{ℕ, ◌+◌, ◌-◌, List, [], ◌∷◌, ◌++◌, Bool, true, false, length, leb, eqb}
+use Rattle.std.specs.Prelude.{ℕ, ◌+◌, ◌-◌, [], ◌∷◌, ◌++◌, Bool, false, length, leb, eqb}
 use Rattle.wire.specs.declared.error.Input.TheVariants as input
-use Rattle.wire.specs.Read.{Bytes, Read, ok, bad, ◌>>=◌, pick, check, about, refused, sized_by, sized, cut, whole, byte_at, constants}
+use Rattle.wire.specs.Read.{Bytes, Read, ok, ◌>>=◌, pick, check, about, refused, sized_by, sized, cut, whole, byte_at, constants}
 use Rattle.wire.specs.Integers.{read_int, int_bytes}
 use Rattle.wire.specs.Output.{fitting}
 use Rattle.options.specs.declared.options.Span.{Span}

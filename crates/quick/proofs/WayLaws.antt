@@ -23,13 +23,13 @@ use Rattle.walk.specs.Presence.{no_column, one, nullables, presence_bytes, Mark,
 use Rattle.walk.specs.Rows.{place, opened, row_end}
 use Rattle.walk.specs.Updates.{numbered, update_bytes, update_opened, update_end}
 use Rattle.walk.specs.Leaps.{stops_from, tail_from, any_column, carried_bit, leap}
-use Rattle.walk.proofs.Laws.{bind_of, bit_next, bit_nullable, bit_all, bit_below, bit_few, length_marks, mark_at, map_few}
+use Rattle.walk.proofs.Laws.{bind_of, bit_next, bit_nullable, bit_all, bit_below, bit_few, length_marks, mark_at}
 use Rattle.walk.proofs.UpdateLaws.{length_numbered, number_at_lem}
-use Rattle.walk.proofs.Leap.{original_ends, update_ends, stops_few, update_stops}
+use Rattle.walk.proofs.Leap.{original_ends, update_ends}
 use Rattle.shapes.specs.Data.{data_stops, data_always}
 use Rattle.shapes.specs.Shapes.{stops_in, map_in, tail_in, always_in, Formed}
-use Rattle.shapes.specs.Masks.{Covers, is_marked, Shape}
-use Rattle.quick.specs.Quick.{Says, QuickRow, QuickUpdate, RowStep, Leads, Leading, Over, Keeps}
+use Rattle.shapes.specs.Masks.{Covers, is_marked}
+use Rattle.quick.specs.Quick.{Says, QuickRow, QuickUpdate, RowStep, Leading, Over, Keeps}
 use Rattle.maps.proofs.MapBits.{bit_small, or_bit, without_bit}
 use Rattle.quick.proofs.WordLaws.{leap_end}
 use Rattle.quick.proofs.MapRules.{set_by, row_opens, update_opens}

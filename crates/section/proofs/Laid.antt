@@ -1,6 +1,6 @@
 -- Rows laid into a table one after the other.
 -- Assumes nothing.
-use Prim.Native.Nat.{ℕ, suc, ◌+◌, ◌*◌, ◌-◌, ◌≤◌}
+use Prim.Native.Nat.{ℕ, suc, ◌+◌, ◌*◌, ◌≤◌}
 use mathlib.Core.Path.{◌≡◌, refl, sym, ap, ◌∙◌}
 use mathlib.Core.List.{List, [], ◌∷◌, ◌++◌, append_assoc, append-nil}
 use mathlib.Core.Bool.{Bool, true, false}
@@ -10,7 +10,7 @@ use lib.Seq.{take_at, drop_at, length-take-le, paste, paste-zero, paste-suc}
 use lib.Dec.{leb}
 use borrow.Author.Tests.{leb-true, leb-false}
 use Rattle.wire.specs.Output.{put}
-use Rattle.wire.proofs.Laws.{take_put, put_fits, put_not, put_paste, length_put, put_put}
+use Rattle.wire.proofs.Laws.{put_fits, put_not, put_paste, length_put, put_put}
 use Rattle.grammar.specs.Grammar.{Row}
 use Rattle.section.specs.Table.{row_numbers, table_numbers}
 use Rattle.section.specs.Scan.{laid_from}

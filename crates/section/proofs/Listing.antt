@@ -1,10 +1,10 @@
 -- The rows of a section, counted or in the caller's table: what the passes over it come to, and the checks in front of them.
 -- Assumes nothing.
-use Prim.Native.Nat.{ℕ, ◌*◌, ◌/◌, ◌<◌, ◌≤◌}
+use Prim.Native.Nat.{ℕ, ◌/◌, ◌<◌, ◌≤◌}
 use mathlib.Core.Path.{◌≡◌, refl, sym, ap, ◌∙◌}
 use mathlib.Core.List.{List}
 use native.Mathlib.Omega.{arith}
-use lib.ListN.{length, take}
+use lib.ListN.{length}
 use borrow.Author.Tests.{le-leb, lt-leb}
 use Rattle.wire.specs.declared.error.Error.{Error}
 use Rattle.wire.specs.declared.error.Input.{Input}
@@ -13,7 +13,6 @@ use Rattle.wire.specs.declared.error.ErrorKind.TheVariants as error
 use Rattle.wire.specs.Errors.{code_of}
 use Rattle.wire.specs.Read.{Bytes, Read, ok, bad, check, about, limit, refused}
 use Rattle.wire.proofs.Laws.{sized_over, sized_within, length_put}
-use Rattle.wire.specs.Output.{put}
 use Rattle.wire.proofs.Pieces.{bad_ok}
 use Rattle.tree.specs.Schemas.{Schema, read_schemas}
 use Rattle.section.specs.declared.read.RowsRead.{RowsRead}

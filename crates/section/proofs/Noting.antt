@@ -17,7 +17,7 @@ use Rattle.grammar.specs.Grammar.{Before, columns_at}
 use Rattle.grammar.specs.Reader.{token_of, known_child}
 use Rattle.section.specs.Heads.{delete_head, data_head}
 use Rattle.walk.specs.Data.{data_end}
-use Rattle.section.specs.Sizes.{end_by, place_in, element_start, element_size, note_bytes, in_step, is_stepped, note_start, NotedAs, in_one, in_three, Noted, NotedSome, NoteMade, NotedAt, passed, made, ended, Blank, NotedIs}
+use Rattle.section.specs.Sizes.{end_by, place_in, element_start, element_size, note_bytes, in_step, is_stepped, note_start, NotedAs, in_one, in_three, NotedSome, NoteMade, NotedAt, passed, made, ended, Blank, NotedIs}
 use Rattle.section.specs.declared.notes.Size.{Size}
 use Rattle.section.proofs.RowsByHead.{HeadTold, told_delete, told_parent, told_child, told_change}
 

@@ -30,7 +30,7 @@ use Rattle.section.specs.Heads.{HeadAt, done_head, delete_head, data_head, head_
 use Rattle.section.specs.Table.{row_numbers}
 use Rattle.section.specs.Runs.{Run}
 use Rattle.section.specs.Scan.{Ready, Scanned}
-use Rattle.shapes.specs.Shapes.{Sound, Held, slot_columns}
+use Rattle.shapes.specs.Shapes.{slot_columns}
 use Rattle.section.specs.Sizes.{in_step, NotedAt, Blank}
 use Rattle.walk.specs.Data.{data_end}
 use Rattle.section.proofs.RowsByHead.{pending_after, before_pending, HeadTold, told_delete, told_parent, told_child, told_change, byte_of}

@@ -1,6 +1,6 @@
 -- Inner: where row data end, as code asks.
 -- Assumes nothing.
-use Rattle.std.specs.Prelude.{ℕ, zero, suc, ◌≤◌, List, Bool, true, ◌≡◌, eqb}
+use Rattle.std.specs.Prelude.{ℕ, zero, suc, List, Bool, ◌≡◌, eqb}
 use Rattle.wire.specs.Read.{Bytes, Read, ok}
 use Rattle.column.specs.declared.column.Column.{Column}
 use Rattle.walk.specs.Data.{data_end, data_opened, data_passed}

@@ -1,6 +1,6 @@
 -- Promise: the head of an element: its token and child id with all checks of them, up to its data.
 -- Assumes nothing.
-use Rattle.std.specs.Prelude.{ℕ, zero, suc, ◌+◌, List, [], ◌∷◌, length, get_or, eqb}
+use Rattle.std.specs.Prelude.{ℕ, zero, suc, ◌+◌, List, length, get_or, eqb}
 use Rattle.wire.specs.declared.error.Input.TheVariants as input
 use Rattle.wire.specs.Read.{Bytes, Read, ok, bad, ◌>>=◌, check, whole, refused}
 use Rattle.tree.specs.Schemas.{Schema, child_number}

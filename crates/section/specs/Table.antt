@@ -1,6 +1,6 @@
 -- Promise: the rows of a section, checked, and in the table that a caller lends (document 01, "Rows"): four numbers a row.
 -- Assumes nothing.
-use Rattle.std.specs.Prelude.{ℕ, ◌+◌, ◌*◌, ◌/◌, ◌<◌, ◌≡◌, List, [], ◌∷◌, ◌++◌, length, leb}
+use Rattle.std.specs.Prelude.{ℕ, ◌/◌, ◌<◌, ◌≡◌, List, [], ◌∷◌, ◌++◌, length, leb}
 use Rattle.wire.specs.declared.error.Input.TheVariants as input
 use Rattle.wire.specs.Read.{Bytes, Read, ok, bad, ◌>>=◌, check, about, sized, refused}
 use Rattle.wire.specs.Output.{put}

@@ -1,6 +1,6 @@
 -- Words and forms that are made column by column, and of all schemas.
 -- Assumes nothing.
-use Prim.Native.Nat.{ℕ, zero, suc, ◌+◌, ◌*◌, ◌%◌, ◌≤◌, ◌<◌}
+use Prim.Native.Nat.{ℕ, ◌+◌, ◌*◌, ◌%◌, ◌≤◌, ◌<◌}
 use mathlib.Core.Path.{◌≡◌, refl, sym, ap, ◌∙◌}
 use mathlib.Core.Logic.{◌⊎◌, inl, inr}
 use mathlib.Core.List.{List, [], ◌∷◌, ◌++◌, append-nil}
@@ -9,7 +9,7 @@ use native.Mathlib.Numerals.{add-one}
 use native.Mathlib.Omega.{arith}
 use lib.Dec.{ltb}
 use borrow.Author.Tests.{ltb-true, ltb-false}
-use borrow.Author.Count.{below_none, below_more}
+use borrow.Author.Count.{below_none}
 use lib.ListN.{length, get_or, set, take, length-append, length-set, length-take, get_or-append}
 use lib.Seq.{take_all, take-suc, get_or-set_same, get_or-set_other, get_or-append_seam}
 use Rattle.wire.specs.Bits.{map_bytes}
@@ -27,7 +27,7 @@ use Rattle.walk.proofs.Leap.{stops_append, tail_append, update_stops, update_sto
 use Rattle.tree.specs.Schemas.{as_column}
 use Rattle.tree.specs.Table.{entry_in}
 use Rattle.shapes.specs.Shapes.{form_of, first_in, stops_in, map_in, tail_in, always_in, bit_mask, SayOne, SayAll, Added}
-use Rattle.shapes.specs.Data.{data_stops, data_map}
+use Rattle.shapes.specs.Data.{data_stops}
 use Rattle.shapes.proofs.FormParts.{form_first, form_stops, form_map, form_tail, form_always}
 
 pub one_most : (b : Bool) → one b ≤ 1

@@ -11,7 +11,6 @@ use Rattle.wire.proofs.Pieces.{bind_ok, ok_ok}
 use Rattle.column.specs.Layout.{most_columns}
 use Rattle.tree.specs.Tree.{most_file_columns, Tree, chapters, WellFormed}
 use Rattle.tree.specs.Reader.{file_of}
-use mathlib.Core.Option.{some}
 use Rattle.tree.specs.Schemas.{Schema, schema, schemas_of, read_schemas, schema_count}
 use Rattle.tree.specs.Table.{table_size, schema_slot, start_in, count_in, lay_file, schemas_in, Slots}
 use Rattle.tree.specs.Filling.{Filled, fill_file}

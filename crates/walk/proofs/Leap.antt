@@ -11,15 +11,15 @@ use lib.Seq.{drop-cons}
 use lib.Dec.{ltb, leb, eqb}
 use borrow.Author.Tests.{leb-true, leb-false, le-leb, lt-leb, eqb-true, eqb-false, ne_eqb}
 use Rattle.wire.specs.declared.error.Input.TheVariants as input
-use Rattle.wire.specs.Read.{Bytes, Read, ok, bad, ◌>>=◌, pick, check, whole}
+use Rattle.wire.specs.Read.{Bytes, Read, ok, bad, ◌>>=◌, pick}
 use Rattle.wire.specs.Bits.{bit_set}
-use Rattle.wire.specs.Integers.{int_at, read_int}
+use Rattle.wire.specs.Integers.{int_at}
 use Rattle.wire.proofs.Laws.{int_fits}
 use Rattle.wire.proofs.Pieces.{bind_same, bind_unit, bind_bind}
 use Rattle.column.specs.declared.column.Column.{Column}
 use Rattle.column.specs.declared.field.Field.{Field}
 use Rattle.column.specs.Columns.{width, is_variable, is_chapter, is_nullable, is_stop, prefix_size, length_error_of, length_error}
-use Rattle.column.specs.Fields.{field, bytes_at, variable_at, field_at}
+use Rattle.column.specs.Fields.{bytes_at, field_at}
 use Rattle.column.specs.Stops.{Stop, stop_of, prefix_of, there, length_at, span_at, span_error, no_stop}
 use Rattle.column.proofs.Laws.{length_rule, length_none, bytes_short, bytes_fit, variable_short, variable_long, variable_bytes, field_variable, field_fixed, field_past}
 use Rattle.column.proofs.Stops.{chapter_bare, stop_chapter, no_stop_lem}

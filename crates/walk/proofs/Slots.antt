@@ -2,15 +2,14 @@
 -- Assumes nothing.
 use Prim.Native.Nat.{ℕ, zero, suc, ◌+◌, ◌≤◌, ◌<◌}
 use mathlib.Core.Path.{◌≡◌, refl, sym, ap, ◌∙◌}
-use mathlib.Core.List.{List, [], ◌∷◌}
-use mathlib.Core.Bool.{Bool, true, false, not, true≢false}
+use mathlib.Core.List.{List, ◌∷◌}
+use mathlib.Core.Bool.{Bool, true, false, true≢false}
 use native.Mathlib.Omega.{arith}
 use lib.ListN.{length, get_or, take}
 use lib.Dec.{ltb, leb}
 use borrow.Author.Tests.{ltb-true, ltb-false, leb-true}
 use Rattle.column.specs.declared.column.Column.{Column}
-use Rattle.wire.specs.Read.{Bytes, Read, ok, ◌>>=◌, pick, check}
-use Rattle.column.specs.declared.field.Field.{Field}
+use Rattle.wire.specs.Read.{Bytes, ok, pick, check}
 use Rattle.column.specs.Columns.{width, is_nullable, is_variable, is_chapter}
 use Rattle.column.specs.Fields.{field, field_at, bytes_at}
 use Rattle.column.specs.Packed.{packed_at, packed_from}

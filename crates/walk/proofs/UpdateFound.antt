@@ -17,7 +17,7 @@ use Rattle.column.specs.Columns.{is_chapter}
 use Rattle.column.specs.Fields.{field_at}
 use Rattle.column.proofs.Laws.{field_told}
 use Rattle.walk.specs.Presence.{no_column, Mark, no_mark, clear}
-use Rattle.walk.specs.Rows.{Place, place, reached, walk, arrive, known}
+use Rattle.walk.specs.Rows.{Place, reached, arrive, known}
 use Rattle.walk.specs.Updates.{numbered, update_bytes, chapter_marked, force_broken, carried_in, update_opened, update_walked, update_end, UpdateAnswer, field, null, unchanged, chapter, update_field, update_column, look_update, update_prefix_count}
 use Rattle.walk.proofs.Found.{walk_found, arrive_counts, known_ok}
 use Rattle.walk.proofs.UpdateLaws.{length_numbered, number_at_lem, carried_field, look_update_chapter, look_update_unchanged, look_update_null, look_update_found}

@@ -16,7 +16,7 @@ use Rattle.column.specs.Columns.{is_chapter}
 use Rattle.column.specs.Fields.{field_at}
 use Rattle.column.proofs.Laws.{field_told, field_later}
 use Rattle.walk.specs.Presence.{no_column, Mark, mark, no_mark, clear}
-use Rattle.walk.specs.Rows.{Place, place, walk}
+use Rattle.walk.specs.Rows.{Place, place}
 use Rattle.walk.specs.Updates.{numbered, update_bytes, chapter_marked, force_broken, carried, carried_in, update_opened, update_walked, update_end, look_update, current}
 use Rattle.walk.proofs.Found.{walk_forward, walk_less}
 use Rattle.walk.proofs.Later.{Agree, agree_less, bit_same, clear_same, walk_same}

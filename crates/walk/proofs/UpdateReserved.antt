@@ -1,14 +1,14 @@
 -- Reserved bits of update data are ignored on reading, in both maps.
 -- Assumes nothing.
-use Prim.Native.Nat.{ℕ, ◌+◌, ◌*◌, ◌≤◌, ◌<◌}
+use Prim.Native.Nat.{ℕ, ◌+◌, ◌*◌, ◌<◌}
 use mathlib.Core.List.{List}
-use mathlib.Core.Bool.{Bool, true, false, not}
-use mathlib.Core.Path.{◌≡◌, refl, sym, ap, ◌∙◌}
+use mathlib.Core.Bool.{Bool, true, false}
+use mathlib.Core.Path.{◌≡◌, refl, sym, ◌∙◌}
 use native.Mathlib.Omega.{arith}
 use lib.ListN.{length, get_or, drop}
 use lib.Dec.{ltb}
 use borrow.Author.Tests.{ltb-true, ltb-false}
-use Rattle.wire.specs.Read.{Bytes, Read, pick, whole}
+use Rattle.wire.specs.Read.{Bytes, whole}
 use Rattle.wire.specs.Bits.{bit_set}
 use Rattle.column.specs.declared.column.Column.{Column}
 use Rattle.walk.specs.Presence.{no_column, Mark, no_mark, mark}

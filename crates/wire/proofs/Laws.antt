@@ -1,22 +1,22 @@
 -- Laws of the definitions that readers and writers are made of. Callers cite these and not the definitions' text.
 -- Assumes nothing.
 use Prim.Native.Nat.{ℕ, zero, suc, ◌+◌, ◌*◌, ◌-◌, ◌/◌, ◌%◌, ◌^◌, ◌≤◌, ◌<◌}
-use mathlib.Core.List.{List, [], ◌∷◌, ◌++◌, append_assoc}
+use mathlib.Core.List.{◌∷◌, ◌++◌, append_assoc}
 use mathlib.Core.Bool.{Bool, true, false}
 use mathlib.Core.Path.{◌≡◌, refl, sym, ap, ◌∙◌}
 use native.Mathlib.Numerals.{add-one}
 use native.Mathlib.Omega.{arith}
-use native.Mathlib.Nat.{add-zero, div-add-mod', pow-suc, div-lt_iff_lt-mul, zero-div}
-use lib.ListN.{length, get_or, take, drop, length-append, length-take, length-drop, take-append-drop, drop_of_length-le, get_or-eq_default}
+use native.Mathlib.Nat.{zero-div}
+use lib.ListN.{length, get_or, take, drop, length-append, drop_of_length-le, get_or-eq_default}
 use lib.Seq.{drop-cons, take_at, drop_at, take-append_seam, length-take-le, drop-drop, take-length, paste, length-paste}
-use lib.Dec.{ltb, leb, eqb}
+use lib.Dec.{ltb, leb}
 use borrow.Author.Tests.{ltb-true, ltb-false, leb-true, leb-false, le-leb, lt-leb, eq-eqb, ne_eqb}
 use Rattle.wire.specs.declared.error.Error.{Error}
 use Rattle.wire.specs.declared.error.ErrorKind.TheVariants as kind
 use Rattle.wire.specs.declared.error.Input.{Input}
 use Rattle.wire.specs.declared.error.Input.TheVariants as input
 use Rattle.wire.specs.declared.output.Written.TheVariants as written
-use Rattle.wire.specs.Read.{Bytes, Read, ok, bad, pick, check, about, refused, limit, sized_by, sized, cut, whole, byte_at, constants}
+use Rattle.wire.specs.Read.{Bytes, Read, ok, bad, check, about, refused, limit, sized_by, sized, cut, whole, byte_at, constants}
 use Rattle.wire.specs.Integers.{value_of, int_at, read_int, int_bytes}
 use Rattle.wire.specs.Bits.{bit_at, bit_set}
 use Rattle.wire.specs.Output.{put, fitting, size_of, output_after, Wrote}

@@ -1,9 +1,9 @@
 -- Promise: whole numbers on the wire: little-endian. Every integer of the format is read by `int_at` and written by `int_bytes`.
 -- Assumes nothing.
-use Rattle.std.specs.Prelude.{ℕ, zero, suc, ◌+◌, ◌*◌, ◌/◌, ◌%◌, List, [], ◌∷◌}
+use Rattle.std.specs.Prelude.{ℕ, zero, suc, ◌+◌, ◌*◌, ◌/◌, ◌%◌, [], ◌∷◌}
 use Rattle.wire.specs.declared.integer.IntRead.{IntRead}
 use Rattle.wire.specs.declared.integer.IntRead.TheVariants.{Int, Refused}
-use Rattle.wire.specs.Read.{Bytes, Read, ok, bad, ◌>>=◌, cut, whole, refused}
+use Rattle.wire.specs.Read.{Bytes, Read, ok, ◌>>=◌, cut, whole, refused}
 
 -- the number that these bytes say, low byte first
 unfoldable pub value_of : Bytes → ℕ

@@ -4,7 +4,6 @@ use mathlib.Core.Path.{sym, ap, ◌∙◌}
 use Rattle.wire.specs.Read.{about}
 use Rattle.wire.specs.Integers.{told_int}
 use Rattle.wire.proofs.Laws.{told_about}
-use borrow.Author.Rules.{rules}
 use Rattle.adtg.proofs.about.Goals as goal
 
 pub returns-in-Int : goal.returns-in-Int

@@ -3,7 +3,6 @@
 use mathlib.Core.Path.{ap, ◌∙◌}
 use native.Mathlib.Omega.{arith}
 use borrow.Author.Tests.{lt-leb, le-leb}
-use borrow.Author.Rules.{rules}
 use Rattle.wire.specs.Read.{check, about, limit, sized_by, refused}
 use Rattle.adtg.proofs.check_size.Goals as goal
 

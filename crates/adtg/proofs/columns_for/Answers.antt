@@ -3,7 +3,6 @@
 use mathlib.Core.Path.{ap, ◌∙◌}
 use Rattle.wire.specs.Read.{sized}
 use Rattle.adtg.specs.InSchema.{columns_beside}
-use borrow.Author.Rules.{rules}
 use Rattle.adtg.proofs.columns_for.Goals as goal
 
 pub returns : goal.returns

@@ -4,7 +4,6 @@ use mathlib.Core.Path.{◌≡◌, sym, ap, ◌∙◌}
 use Rattle.wire.specs.Read.{sized, told_match}
 use Rattle.adtg.specs.InSchema.{both}
 use Rattle.adtg.proofs.Laws.{all_sizes, slots_large, slots_sized}
-use borrow.Author.Rules.{rules}
 use Rattle.adtg.proofs.slots_beside.Goals as goal
 
 pub returns-in-Refused : goal.returns-in-Refused

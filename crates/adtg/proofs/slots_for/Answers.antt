@@ -3,7 +3,6 @@
 use mathlib.Core.Path.{ap, ◌∙◌}
 use Rattle.wire.specs.Read.{sized, ok}
 use Rattle.adtg.specs.InSchema.{in_schema}
-use borrow.Author.Rules.{rules}
 use Rattle.adtg.proofs.slots_for.Goals as goal
 
 pub returns : goal.returns

@@ -7,7 +7,6 @@ use Rattle.walk.specs.Presence.{nullables, presence_bytes, marks}
 use Rattle.walk.specs.Leaps.{stops_from}
 use Rattle.plan.specs.Packed.{counted, laid}
 use Rattle.plan.specs.Plans.{numbers_from, first_stop, chapter_mask, plan_of}
-use borrow.Author.Rules.{rules}
 use Rattle.adtg.proofs.plans.blank_plan.Goals as goal
 
 pub returns : goal.returns

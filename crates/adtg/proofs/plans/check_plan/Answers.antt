@@ -7,7 +7,6 @@ use Rattle.plan.specs.Plans.{plan_of}
 use Rattle.adtg.specs.Plans.{plan_in}
 use Rattle.adtg.proofs.Laws.{slots_refused, slots_found}
 use Rattle.adtg.proofs.Planning.{checked_refused, checked_found}
-use borrow.Author.Rules.{rules}
 use Rattle.adtg.proofs.plans.check_plan.Goals as goal
 
 pub returns-in-Refused : goal.returns-in-Refused

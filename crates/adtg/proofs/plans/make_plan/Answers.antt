@@ -7,7 +7,6 @@ use Rattle.column.specs.declared.column.Column.{Column}
 use Rattle.plan.specs.Plans.{plan_of}
 use Rattle.adtg.specs.Plans.{plan_in, plan_beside}
 use Rattle.adtg.proofs.Laws.{slots_refused, slots_found}
-use borrow.Author.Rules.{rules}
 use Rattle.adtg.proofs.plans.make_plan.Goals as goal
 
 pub returns-in-Refused : goal.returns-in-Refused

@@ -4,7 +4,6 @@ use mathlib.Core.Path.{sym, ◌∙◌}
 use Rattle.walk.specs.Rows.{field_count}
 use Rattle.adtg.specs.Rows.{field_count_in}
 use Rattle.adtg.proofs.Laws.{slots_refused, slots_found}
-use borrow.Author.Rules.{rules}
 use Rattle.adtg.proofs.rows.field_count.Goals as goal
 
 pub returns-in-Refused : goal.returns-in-Refused

@@ -3,7 +3,6 @@
 use mathlib.Core.Path.{sym, ap, ◌∙◌}
 use Rattle.walk.specs.Parts.{part_of}
 use Rattle.adtg.proofs.Laws.{look_refused, look_found}
-use borrow.Author.Rules.{rules}
 use Rattle.adtg.proofs.rows.field_part.Goals as goal
 
 pub returns-in-Refused : goal.returns-in-Refused

@@ -2,7 +2,6 @@
 -- Assumes nothing.
 use mathlib.Core.Path.{sym, ◌∙◌}
 use Rattle.adtg.proofs.Laws.{look_slots_refused, look_slots_found}
-use borrow.Author.Rules.{rules}
 use Rattle.adtg.proofs.rows.look_up.Goals as goal
 
 pub returns-in-Refused : goal.returns-in-Refused

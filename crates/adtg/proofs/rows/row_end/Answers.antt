@@ -6,7 +6,6 @@ use Rattle.wire.specs.Read.{about}
 use Rattle.walk.specs.Rows.{row_end}
 use Rattle.adtg.specs.Rows.{row_end_in}
 use Rattle.adtg.proofs.Laws.{slots_refused, slots_found}
-use borrow.Author.Rules.{rules}
 use Rattle.adtg.proofs.rows.row_end.Goals as goal
 
 pub returns-in-Refused : goal.returns-in-Refused

@@ -3,7 +3,6 @@
 use mathlib.Core.Path.{refl, ap, ◌∙◌}
 use Rattle.wire.specs.Read.{sized}
 use Rattle.adtg.specs.InSchema.{columns_beside}
-use borrow.Author.Rules.{rules}
 use Rattle.adtg.proofs.updates.columns_for_both.Goals as goal
 
 pub returns : goal.returns

@@ -2,7 +2,6 @@
 -- Assumes nothing.
 use mathlib.Core.Path.{sym, ◌∙◌}
 use Rattle.adtg.proofs.Laws.{current_refused, current_found}
-use borrow.Author.Rules.{rules}
 use Rattle.adtg.proofs.updates.current.Goals as goal
 
 pub returns-in-Refused : goal.returns-in-Refused

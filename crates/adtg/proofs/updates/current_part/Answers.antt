@@ -3,7 +3,6 @@
 use mathlib.Core.Path.{sym, ap, ◌∙◌}
 use Rattle.walk.specs.Parts.{current_part}
 use Rattle.adtg.proofs.Laws.{current_refused, current_found}
-use borrow.Author.Rules.{rules}
 use Rattle.adtg.proofs.updates.current_part.Goals as goal
 
 pub returns-in-Refused : goal.returns-in-Refused

@@ -4,7 +4,6 @@ use mathlib.Core.Path.{sym, ◌∙◌}
 use Rattle.walk.specs.Updates.{look_update, look_update_row}
 use Rattle.adtg.specs.Updates.{look_update_in}
 use Rattle.adtg.proofs.Laws.{refused_in_lem, found_sized}
-use borrow.Author.Rules.{rules}
 use Rattle.adtg.proofs.updates.look_update.Goals as goal
 
 pub returns-in-Refused : goal.returns-in-Refused

@@ -6,7 +6,6 @@ use Rattle.wire.specs.Read.{about}
 use Rattle.walk.specs.Updates.{update_end}
 use Rattle.adtg.specs.Updates.{update_end_in}
 use Rattle.adtg.proofs.Laws.{refused_in_lem, found_in}
-use borrow.Author.Rules.{rules}
 use Rattle.adtg.proofs.updates.update_end.Goals as goal
 
 pub returns-in-Refused : goal.returns-in-Refused

@@ -8,7 +8,6 @@ use Rattle.encode.specs.Writers.{write_update, values_sized}
 use Rattle.adtg.specs.Writers.{write_update_in}
 use Rattle.adtg.proofs.Laws.{refused_in_lem, found_sized}
 use Rattle.adtg.proofs.Writing.{wrote_refused, wrote_same}
-use borrow.Author.Rules.{rules}
 use Rattle.adtg.proofs.writers.write_update.Goals as goal
 
 pub returns-in-Refused : goal.returns-in-Refused

@@ -5,7 +5,6 @@ use mathlib.Core.Path.{sym, ap}
 use native.Mathlib.Omega.{arith}
 use lib.Dec.{eqb}
 use Rattle.column.proofs.Laws.{rule_over, flag_odd, rule_under}
-use borrow.Author.Rules.{rules}
 use Rattle.column.proofs.column.allows.Goals as goal
 
 pub returns-then-most-size : goal.returns-then-most-size

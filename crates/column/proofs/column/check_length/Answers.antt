@@ -1,7 +1,6 @@
 -- What is not allowed is refused with 14.
 -- Assumes nothing.
 use mathlib.Core.Path.{sym, ◌∙◌}
-use borrow.Author.Rules.{rules}
 use borrow.Author.Tests.{eqb-true}
 use Rattle.column.proofs.Laws.{rule_refused}
 use Rattle.column.proofs.column.check_length.Goals as goal

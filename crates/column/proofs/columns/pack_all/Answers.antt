@@ -1,9 +1,7 @@
 -- Each column goes into its slot.
 -- Assumes nothing.
-use Prim.Native.Nat.{◌-◌}
 use native.Mathlib.Omega.{arith}
 use Rattle.column.proofs.PackedLaws.{pack_start, pack_next, pack_end}
-use borrow.Author.Rules.{rules}
 use Rattle.column.proofs.columns.pack_all.Goals as goal
 
 pub loop-i-init : goal.loop-i-init

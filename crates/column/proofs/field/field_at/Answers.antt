@@ -1,7 +1,6 @@
 -- The branch decides which of the two readers of the definition answers.
 -- Assumes nothing.
 use mathlib.Core.Path.{sym, ◌∙◌}
-use borrow.Author.Rules.{rules}
 use Rattle.column.proofs.Laws.{field_variable, field_fixed}
 use Rattle.column.proofs.field.field_at.Goals as goal
 

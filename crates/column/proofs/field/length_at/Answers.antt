@@ -1,7 +1,6 @@
 -- The branch finds which of the two sizes the prefix has.
 -- Assumes nothing.
 use mathlib.Core.Path.{sym, ◌∙◌}
-use borrow.Author.Rules.{rules}
 use Rattle.column.proofs.Laws.{prefix_else}
 use Rattle.column.proofs.field.length_at.Goals as goal
 

@@ -2,7 +2,6 @@
 -- Assumes nothing.
 use mathlib.Core.Path.{◌≡◌, sym, ap, ◌∙◌}
 use native.Mathlib.Omega.{arith}
-use borrow.Author.Rules.{rules}
 use Rattle.wire.specs.Read.{ok}
 use Rattle.wire.specs.Integers.{read_int, told_int}
 use Rattle.column.specs.Columns.{told_length, prefix_size}

@@ -1,9 +1,7 @@
 -- The answer from column i on is the answer.
 -- Assumes nothing.
-use Prim.Native.Nat.{◌-◌}
 use mathlib.Core.Path.{sym, ◌∙◌}
 use Rattle.encode.proofs.Arrays.{entering_start, entering_next, entering_not, entering_end}
-use borrow.Author.Rules.{rules}
 use Rattle.encode.proofs.writers.are_entries.Goals as goal
 
 pub loop-i-init : goal.loop-i-init

@@ -2,7 +2,6 @@
 -- Assumes nothing.
 use native.Mathlib.Omega.{arith}
 use Rattle.encode.proofs.Maps.{bit_on, bit_off}
-use borrow.Author.Rules.{rules}
 use Rattle.encode.proofs.writers.bit_at.Goals as goal
 
 pub returns-then-bits-k-eq1 : goal.returns-then-bits-k-eq1

@@ -6,7 +6,6 @@ use Rattle.encode.specs.declared.writers.Map.{Map}
 use Rattle.encode.specs.Entries.{given, entry_of}
 use Rattle.encode.specs.Steps.{bit_of}
 use Rattle.encode.proofs.Maps.{bit_presence, bit_update, bit_force}
-use borrow.Author.Rules.{rules}
 use Rattle.encode.proofs.writers.bit_of.Goals as goal
 
 pub returns-in-Presence : goal.returns-in-Presence

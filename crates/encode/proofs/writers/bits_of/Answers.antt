@@ -1,9 +1,7 @@
 -- The loop goes on with one more column's bit in the array, where it has one.
 -- Assumes nothing.
-use Prim.Native.Nat.{◌-◌}
 use native.Mathlib.Omega.{arith}
 use Rattle.encode.proofs.Arrays.{fill_start, fill_next, fill_skip, fill_end}
-use borrow.Author.Rules.{rules}
 use Rattle.encode.proofs.writers.bits_of.Goals as goal
 
 pub loop-i-init : goal.loop-i-init

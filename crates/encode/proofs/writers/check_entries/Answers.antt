@@ -1,11 +1,8 @@
 -- The loop stands at column i: the answer from there is the answer, with the fields before it counted.
 -- Assumes nothing.
-use Prim.Native.Nat.{◌-◌}
 use mathlib.Core.Path.{sym}
-use mathlib.Core.Bool.{true}
 use native.Mathlib.Omega.{arith}
 use Rattle.encode.proofs.Arrays.{entry_among, standing_start, standing_next, standing_not, standing_end}
-use borrow.Author.Rules.{rules}
 use Rattle.encode.proofs.writers.check_entries.Goals as goal
 
 pub loop-i-init : goal.loop-i-init

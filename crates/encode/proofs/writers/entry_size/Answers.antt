@@ -5,7 +5,6 @@ use mathlib.Core.Path.{sym, ap, ◌∙◌}
 use lib.ListN.{length, get_or}
 use native.Mathlib.Omega.{arith}
 use Rattle.encode.proofs.Laws.{says_none, value_size, prefix_few}
-use borrow.Author.Rules.{rules}
 use Rattle.encode.proofs.writers.entry_size.Goals as goal
 
 pub overflow_add-result : goal.overflow_add-result

@@ -3,7 +3,6 @@
 use mathlib.Core.Path.{sym, ap, ◌∙◌}
 use Rattle.encode.specs.declared.writers.Map.{Map}
 use Rattle.encode.specs.Steps.{has_bit}
-use borrow.Author.Rules.{rules}
 use Rattle.encode.proofs.writers.has_bit.Goals as goal
 
 pub returns-in-Presence : goal.returns-in-Presence

@@ -6,7 +6,6 @@ use lib.ListN.{length, get_or}
 use lib.Dec.{leb, eqb}
 use native.Mathlib.Omega.{arith}
 use Rattle.encode.proofs.Laws.{entry_value, entry_crossed, entry_null, entry_other}
-use borrow.Author.Rules.{rules}
 use Rattle.encode.proofs.writers.is_entry.Goals as goal
 
 pub returns-then-number_at-end : goal.returns-then-number_at-end

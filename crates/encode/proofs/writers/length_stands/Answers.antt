@@ -5,7 +5,6 @@ use lib.Dec.{eqb}
 use Rattle.column.specs.Columns.{told_length}
 use Rattle.column.proofs.Laws.{prefix_else}
 use Rattle.encode.proofs.Laws.{length_chapter, length_fixed, length_refused, length_allowed}
-use borrow.Author.Rules.{rules}
 use Rattle.encode.proofs.writers.length_stands.Goals as goal
 
 pub returns-then-is_chapter : goal.returns-then-is_chapter

@@ -3,7 +3,6 @@
 use Prim.Native.Nat.{◌*◌}
 use Rattle.encode.specs.Steps.{bits_in}
 use Rattle.encode.proofs.Maps.{byte_made}
-use borrow.Author.Rules.{rules}
 use Rattle.encode.proofs.writers.map_byte.Goals as goal
 
 pub returns : goal.returns

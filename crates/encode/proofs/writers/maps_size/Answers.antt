@@ -10,7 +10,6 @@ use Rattle.encode.specs.Writers.{entries_in}
 use Rattle.encode.specs.Steps.{bits_of}
 use Rattle.encode.proofs.Maps.{held_size, held_few}
 use Rattle.encode.proofs.Writing.{maps_two, maps_original}
-use borrow.Author.Rules.{rules}
 use Rattle.encode.proofs.writers.maps_size.Goals as goal
 
 pub overflow_mul-result : goal.overflow_mul-result

@@ -2,7 +2,6 @@
 -- Assumes nothing.
 use mathlib.Core.Path.{sym, ◌∙◌}
 use Rattle.encode.proofs.Laws.{chapter_unchanged, chapter_null, null_nullable}
-use borrow.Author.Rules.{rules}
 use Rattle.encode.proofs.writers.null_stands.Goals as goal
 
 pub returns-then-update : goal.returns-then-update

@@ -7,7 +7,6 @@ use Rattle.wire.specs.Read.{Bytes}
 use Rattle.wire.specs.Output.{put}
 use Rattle.encode.specs.Steps.{bits_in}
 use Rattle.encode.proofs.Maps.{eight_made, take_pack}
-use borrow.Author.Rules.{rules}
 use Rattle.encode.proofs.writers.put_bytes.Goals as goal
 
 pub slice_bounds-copy_into-end : goal.slice_bounds-copy_into-end

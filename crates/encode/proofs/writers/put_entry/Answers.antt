@@ -6,7 +6,6 @@ use lib.ListN.{length, get_or}
 use native.Mathlib.Omega.{arith}
 use Rattle.wire.specs.Output.{put}
 use Rattle.encode.proofs.Laws.{says_none, value_ends, entry_field, put_none, laid_as, cut_small}
-use borrow.Author.Rules.{rules}
 use Rattle.encode.proofs.writers.put_entry.Goals as goal
 
 pub slice_bounds-put_field-count : goal.slice_bounds-put_field-count

@@ -2,7 +2,6 @@
 -- Assumes nothing.
 use native.Mathlib.Omega.{arith}
 use Rattle.encode.proofs.Laws.{prefix_few, field_laid}
-use borrow.Author.Rules.{rules}
 use Rattle.encode.proofs.writers.put_field.Goals as goal
 
 pub overflow_add-result : goal.overflow_add-result

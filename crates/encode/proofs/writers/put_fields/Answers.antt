@@ -1,9 +1,7 @@
 -- The loop lays field after field.
 -- Assumes nothing.
-use Prim.Native.Nat.{◌-◌}
 use native.Mathlib.Omega.{arith}
 use Rattle.encode.proofs.Arrays.{entry_among, laying_start, laying_length, laying_inside, laying_room, laying_next, laying_end}
-use borrow.Author.Rules.{rules}
 use Rattle.encode.proofs.writers.put_fields.Goals as goal
 
 pub loop-i-init : goal.loop-i-init

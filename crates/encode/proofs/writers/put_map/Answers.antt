@@ -9,7 +9,6 @@ use Rattle.encode.specs.Encoding.{pack_in}
 use Rattle.encode.specs.Writers.{entries_in}
 use Rattle.encode.specs.Steps.{bits_in, bits_of}
 use Rattle.encode.proofs.Maps.{held_pack, held_size, held_few}
-use borrow.Author.Rules.{rules}
 use Rattle.encode.proofs.writers.put_map.Goals as goal
 
 pub put_bytes-requires : goal.put_bytes-requires

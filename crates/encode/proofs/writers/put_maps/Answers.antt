@@ -10,7 +10,6 @@ use Rattle.encode.specs.Writers.{entries_in}
 use Rattle.encode.specs.Steps.{bits_of}
 use Rattle.encode.proofs.Laws.{laid_as}
 use Rattle.encode.proofs.Writing.{maps_update, maps_original, laid_next}
-use borrow.Author.Rules.{rules}
 use Rattle.encode.proofs.writers.put_maps.Goals as goal
 
 pub overflow_add-at : goal.overflow_add-at

@@ -4,7 +4,6 @@ use mathlib.Core.Path.{sym, ap, ◌∙◌}
 use Rattle.wire.specs.Output.{put}
 use Rattle.column.proofs.Laws.{prefix_else}
 use Rattle.encode.proofs.Laws.{put_none, prefix_byte, prefix_word, prefix_none}
-use borrow.Author.Rules.{rules}
 use Rattle.encode.proofs.writers.put_prefix.Goals as goal
 
 pub returns-then-prefix_size-eq1 : goal.returns-then-prefix_size-eq1

@@ -6,7 +6,6 @@ use lib.ListN.{get_or}
 use Rattle.encode.specs.Writers.{length_stands}
 use Rattle.encode.specs.Steps.{stands_in}
 use Rattle.encode.proofs.Laws.{says_value, says_null, says_unchanged, value_length, value_stands, unchanged_stands}
-use borrow.Author.Rules.{rules}
 use Rattle.encode.proofs.writers.stands.Goals as goal
 
 pub returns-then-kind-eq1 : goal.returns-then-kind-eq1

@@ -1,7 +1,6 @@
 -- As a row that is no update.
 -- Assumes nothing.
 use Rattle.encode.proofs.Writing.{original_written}
-use borrow.Author.Rules.{rules}
 use Rattle.encode.proofs.writers.write_original.Goals as goal
 
 pub returns : goal.returns

@@ -12,7 +12,6 @@ use Rattle.column.specs.Layout.{columns_from}
 use Rattle.walk.proofs.Arrays.{length_from}
 use Rattle.encode.proofs.Arrays.{fields_small}
 use Rattle.encode.proofs.Writing.{Task, maps_of, sizes_of, Checked, values_over, place_outside, entries_miscounted, entries_none, entry_refused, fields_sized, row_over, maps_fit, fields_fit, row_written, row_refused}
-use borrow.Author.Rules.{rules}
 use Rattle.encode.proofs.writers.write_row.Goals.{After-check_entries, In-Int, After-maps_size}
 use Rattle.encode.proofs.writers.write_row.Goals as goal
 

@@ -1,7 +1,6 @@
 -- As a row that is an update.
 -- Assumes nothing.
 use Rattle.encode.proofs.Writing.{update_written}
-use borrow.Author.Rules.{rules}
 use Rattle.encode.proofs.writers.write_update.Goals as goal
 
 pub returns : goal.returns

@@ -8,7 +8,6 @@ use Rattle.wire.specs.Read.{Bytes, check}
 use Rattle.wire.proofs.Laws.{told_short, byte_fits, byte_short}
 use Rattle.header.specs.Header.{header_fields}
 use Rattle.header.proofs.Laws.{fields_short}
-use borrow.Author.Rules.{rules}
 use native.Mathlib.Omega.{arith}
 use Rattle.header.proofs.header.read_fields.Goals as goal
 

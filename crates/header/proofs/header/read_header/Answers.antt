@@ -4,7 +4,6 @@ use mathlib.Core.Path.{sym, ap, ◌∙◌}
 use Rattle.wire.specs.Read.{told_match, refused}
 use Rattle.wire.proofs.Laws.{sized_over, sized_within}
 use Rattle.header.specs.Header.{header_of}
-use borrow.Author.Rules.{rules}
 use Rattle.header.proofs.header.read_header.Goals as goal
 
 pub returns-then-s-gt-LIMIT : goal.returns-then-s-gt-LIMIT

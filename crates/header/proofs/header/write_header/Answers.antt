@@ -7,7 +7,6 @@ use borrow.Author.Tests.{le-leb, lt-leb, eq-eqb, ne_eqb}
 use Rattle.wire.specs.Read.{check, about}
 use Rattle.wire.proofs.Laws.{wrote_error, wrote_piece, fitting_fits, fitting_not, put_next}
 use Rattle.header.specs.Header.{signature, header_bytes, header_written}
-use borrow.Author.Rules.{rules}
 use Rattle.header.proofs.header.write_header.Goals as goal
 
 pub returns-then-order-ne0 : goal.returns-then-order-ne0

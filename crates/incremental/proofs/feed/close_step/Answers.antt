@@ -2,7 +2,6 @@
 -- Assumes nothing.
 use mathlib.Core.Path.{◌≡◌, sym, ◌∙◌}
 use lib.ListN.{length}
-use borrow.Author.Tests.{not-true, not-false}
 use Rattle.feeding.specs.Answers.{close}
 use Rattle.incremental.proofs.FeedLaws.{call_stands, call_unfit, call_refused, call_read, ending_complete, ending_short, fits_sane, closed_by}
 use borrow.Author.Rules.{rules}

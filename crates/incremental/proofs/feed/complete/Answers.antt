@@ -1,7 +1,6 @@
 -- A count of rows, which stands.
 -- Assumes nothing.
 use Rattle.incremental.proofs.FeedLaws.{tells_completed}
-use borrow.Author.Rules.{rules}
 use Rattle.incremental.proofs.feed.complete.Goals as goal
 
 pub returns : goal.returns

@@ -1,7 +1,6 @@
 -- The shapes of the schemas are kept, in as many numbers as they need, or in the most.
 -- Assumes nothing.
 use native.Mathlib.Omega.{arith}
-use borrow.Author.Rules.{rules}
 use Rattle.incremental.proofs.feed.feed_rows.Goals as goal
 
 pub overflow_mul-schemas : goal.overflow_mul-schemas

@@ -2,11 +2,9 @@
 -- Assumes nothing.
 use mathlib.Core.Path.{sym, ap, ◌∙◌}
 use native.Mathlib.Omega.{arith}
-use borrow.Author.Tests.{not-true, not-false}
 use Rattle.feeding.specs.Answers.{fragment}
 use Rattle.feeding.specs.Feeding.{standing}
 use Rattle.incremental.proofs.FeedLaws.{call_stands, call_unfit, call_refused, call_read, fits_sane, fed_by}
-use borrow.Author.Rules.{rules}
 use Rattle.incremental.proofs.feed.feed_step.Goals as goal
 
 pub returns-then-reader-ge-REFUSED : goal.returns-then-reader-ge-REFUSED

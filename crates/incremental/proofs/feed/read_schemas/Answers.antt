@@ -7,7 +7,6 @@ use Rattle.schema.specs.Told.{told_place}
 use Rattle.tree.specs.Filling.{fill_file}
 use Rattle.section.proofs.Sound.{schemas_of_lem, sound_of, columns_of, file_bad}
 use Rattle.incremental.proofs.FeedLaws.{file_large, file_refused, file_read}
-use borrow.Author.Rules.{rules}
 use Rattle.incremental.proofs.feed.read_schemas.Goals as goal
 
 pub returns-then-file-gt-LIMIT : goal.returns-then-file-gt-LIMIT

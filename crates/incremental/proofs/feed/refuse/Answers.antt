@@ -1,7 +1,6 @@
 -- A refusal, which stands.
 -- Assumes nothing.
 use Rattle.incremental.proofs.FeedLaws.{tells_failed}
-use borrow.Author.Rules.{rules}
 use Rattle.incremental.proofs.feed.refuse.Goals as goal
 
 pub returns : goal.returns

@@ -1,6 +1,5 @@
 -- By the number of the kind.
 -- Assumes nothing.
-use borrow.Author.Rules.{rules}
 use Rattle.incremental.proofs.feed.refuse_by.Goals as goal
 
 pub returns : goal.returns

@@ -2,7 +2,6 @@
 -- Assumes nothing.
 use mathlib.Core.Path.{sym, ◌∙◌}
 use Rattle.incremental.proofs.FeedLaws.{reader_closed, reader_refused, reader_unknown, reader_none}
-use borrow.Author.Rules.{rules}
 use Rattle.incremental.proofs.feed.stand.Goals as goal
 
 pub returns-then-r-eq-CLOSED : goal.returns-then-r-eq-CLOSED

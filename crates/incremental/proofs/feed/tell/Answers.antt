@@ -1,7 +1,6 @@
 -- By the stage.
 -- Assumes nothing.
 use Rattle.incremental.proofs.FeedLaws.{came_sane, tells_refused, tells_complete, tells_going}
-use borrow.Author.Rules.{rules}
 use Rattle.incremental.proofs.feed.tell.Goals as goal
 
 pub returns-then-r-eq-REFUSED : goal.returns-then-r-eq-REFUSED

@@ -6,7 +6,6 @@ use native.Mathlib.Omega.{arith}
 use Rattle.incremental.proofs.StateLaws.{prefix_stands, body_stands}
 use Rattle.incremental.proofs.FieldLaws.{prefix_few}
 use Rattle.feeding.proofs.Fed.{prefix_positive}
-use borrow.Author.Rules.{rules}
 use Rattle.incremental.proofs.fields.at_field.Goals as goal
 
 pub overflow_sub-next : goal.overflow_sub-next

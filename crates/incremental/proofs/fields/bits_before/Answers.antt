@@ -1,12 +1,10 @@
 -- The bits of the columns before i.
 -- Assumes nothing.
-use Prim.Native.Nat.{◌-◌}
 use mathlib.Core.Path.{◌≡◌, sym, ap, ◌∙◌}
 use native.Mathlib.Omega.{arith}
 use Rattle.walk.specs.Presence.{bit_of}
 use Rattle.walk.proofs.Laws.{bit_zero}
 use Rattle.shapes.proofs.Slots.{in_slots, slot_bit}
-use borrow.Author.Rules.{rules}
 use Rattle.incremental.proofs.fields.bits_before.Goals as goal
 
 pub loop-i-init : goal.loop-i-init

@@ -1,7 +1,6 @@
 -- The slot of the schema says where its columns stand.
 -- Assumes nothing.
 use mathlib.Core.Path.{refl}
-use borrow.Author.Rules.{rules}
 use Rattle.incremental.proofs.FieldLaws.{block_told}
 use Rattle.incremental.proofs.fields.block_of.Goals as goal
 

@@ -1,12 +1,10 @@
 -- Up to column i all fields were passed (`Passing`).
 -- Assumes nothing.
-use Prim.Native.Nat.{◌-◌}
 use mathlib.Core.Path.{sym, ap, ◌∙◌}
 use native.Mathlib.Omega.{arith}
 use Rattle.column.specs.Fields.{told_field}
 use Rattle.shapes.proofs.Slots.{in_slots, length_slots, slot_at, slot_bit}
 use Rattle.incremental.proofs.FieldLaws.{passing_start, passing_end, asked_found, asked_passed, asked_next, half_told}
-use borrow.Author.Rules.{rules}
 use Rattle.incremental.proofs.fields.pass_fields.Goals as goal
 
 pub bits_before-bit-requires : goal.bits_before-bit-requires

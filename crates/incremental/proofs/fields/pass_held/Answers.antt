@@ -6,7 +6,6 @@ use native.Mathlib.Omega.{arith}
 use lib.ListN.{take}
 use Rattle.shapes.proofs.Slots.{in_slots}
 use Rattle.incremental.specs.Steps.{FieldsPassed}
-use borrow.Author.Rules.{rules}
 use Rattle.incremental.proofs.fields.pass_held.Goals as goal
 
 pub returns : goal.returns

@@ -3,7 +3,6 @@
 use mathlib.Core.Path.{refl}
 use native.Mathlib.Omega.{arith}
 use Rattle.incremental.proofs.StateLaws.{row_ended, kind_change, kind_child, kind_parent}
-use borrow.Author.Rules.{rules}
 use Rattle.incremental.proofs.fields.row_ended.Goals as goal
 
 pub returns-then-r-eq3 : goal.returns-then-r-eq3

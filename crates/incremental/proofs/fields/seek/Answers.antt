@@ -3,7 +3,6 @@
 use mathlib.Core.Path.{refl}
 use native.Mathlib.Omega.{arith}
 use Rattle.incremental.proofs.FieldLaws.{sought_none}
-use borrow.Author.Rules.{rules}
 use Rattle.incremental.proofs.fields.seek.Goals as goal
 
 pub seek_on-moved-requires : goal.seek_on-moved-requires

@@ -7,7 +7,6 @@ use Rattle.shapes.proofs.Slots.{length_slots, slot_at}
 use Rattle.incremental.specs.Record.{kind_in, map_in}
 use Rattle.incremental.proofs.StateLaws.{kind_update}
 use Rattle.incremental.proofs.FieldLaws.{found_field, found_none, sought}
-use borrow.Author.Rules.{rules}
 use Rattle.incremental.proofs.fields.seek_on.Goals as goal
 
 pub pass_held-passed-requires : goal.pass_held-passed-requires

@@ -6,7 +6,6 @@ use Rattle.tree.specs.Table.{schemas_in}
 use Rattle.shapes.proofs.Slots.{slot_at}
 use Rattle.incremental.specs.Record.{kind_by}
 use Rattle.incremental.proofs.PieceLaws.{column_in_lem, column_past}
-use borrow.Author.Rules.{rules}
 use Rattle.incremental.proofs.pieces.column_at.Goals as goal
 
 pub returns-then-j-block : goal.returns-then-j-block

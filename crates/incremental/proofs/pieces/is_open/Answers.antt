@@ -7,7 +7,6 @@ use Rattle.wire.specs.Read.{Bytes}
 use Rattle.walk.specs.Rows.{opened}
 use Rattle.shapes.proofs.Slots.{in_slots}
 use Rattle.incremental.proofs.PieceLaws.{part_of}
-use borrow.Author.Rules.{rules}
 use Rattle.incremental.proofs.pieces.is_open.Goals as goal
 
 pub returns-then-update : goal.returns-then-update

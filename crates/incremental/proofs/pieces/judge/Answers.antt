@@ -5,7 +5,6 @@ use Rattle.tree.specs.Table.{schemas_in}
 use Rattle.incremental.specs.Record.{kind_in, held_in}
 use Rattle.incremental.proofs.StateLaws.{stage_child, stage_change, stage_delete, stage_maps, stage_prefix}
 use Rattle.incremental.proofs.PieceLaws.{maps_judged, is_prefix}
-use borrow.Author.Rules.{rules}
 use Rattle.incremental.proofs.pieces.judge.Goals as goal
 
 pub returns-in-1 : goal.returns-in-1

@@ -3,13 +3,11 @@
 use Prim.Native.Nat.{◌-◌}
 use mathlib.Core.Path.{sym, ap, ◌∙◌}
 use native.Mathlib.Omega.{arith}
-use borrow.Author.Tests.{not-true, not-false}
 use Rattle.wire.specs.Integers.{told_int}
 use Rattle.tree.specs.Table.{schemas_in}
 use Rattle.incremental.specs.Record.{before_by, held_in}
 use Rattle.incremental.proofs.StateLaws.{stopped_anywhere}
 use Rattle.incremental.proofs.PieceLaws.{refused_piece, int_within, change_refused, change_alone, change_unknown, change_known}
-use borrow.Author.Rules.{rules}
 use Rattle.incremental.proofs.pieces.judge_change.Goals as goal
 
 pub stop_at-requires : goal.stop_at-requires

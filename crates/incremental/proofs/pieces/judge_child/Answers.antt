@@ -8,7 +8,6 @@ use Rattle.tree.specs.Table.{schemas_in}
 use Rattle.incremental.specs.Record.{held_in}
 use Rattle.incremental.proofs.StateLaws.{stopped_anywhere}
 use Rattle.incremental.proofs.PieceLaws.{refused_piece, int_within, child_refused, child_unknown, child_known}
-use borrow.Author.Rules.{rules}
 use Rattle.incremental.proofs.pieces.judge_child.Goals as goal
 
 pub stop_at-requires : goal.stop_at-requires

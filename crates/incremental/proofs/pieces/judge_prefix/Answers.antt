@@ -9,7 +9,6 @@ use Rattle.tree.specs.Table.{schemas_in}
 use Rattle.incremental.specs.Record.{kind_in, held_in, map_in}
 use Rattle.incremental.proofs.StateLaws.{stopped_anywhere}
 use Rattle.incremental.proofs.PieceLaws.{refused_piece, int_within, prefix_refused, prefix_long, prefix_read}
-use borrow.Author.Rules.{rules}
 use Rattle.incremental.proofs.pieces.judge_prefix.Goals as goal
 
 pub stop_at-requires : goal.stop_at-requires

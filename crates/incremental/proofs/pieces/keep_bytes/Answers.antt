@@ -5,7 +5,6 @@ use Rattle.wire.specs.Read.{cut}
 use Rattle.wire.proofs.Pieces.{cut_length}
 use Rattle.tree.specs.Table.{schemas_in}
 use Rattle.incremental.proofs.PieceLaws.{piece_whole, piece_some}
-use borrow.Author.Rules.{rules}
 use Rattle.incremental.proofs.pieces.keep_bytes.Goals as goal
 
 pub with_bytes-more-requires : goal.with_bytes-more-requires

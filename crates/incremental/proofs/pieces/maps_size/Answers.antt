@@ -7,7 +7,6 @@ use Rattle.tree.specs.Table.{schemas_in}
 use Rattle.incremental.specs.Record.{kind_by}
 use Rattle.incremental.proofs.StateLaws.{kind_update}
 use Rattle.incremental.proofs.PieceLaws.{size_update, size_original}
-use borrow.Author.Rules.{rules}
 use Rattle.incremental.proofs.pieces.maps_size.Goals as goal
 
 pub overflow_mul-result : goal.overflow_mul-result

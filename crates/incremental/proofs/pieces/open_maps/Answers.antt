@@ -9,7 +9,6 @@ use Rattle.feeding.specs.Machine.{is_update, columns_for}
 use Rattle.incremental.specs.Record.{kind_in, held_in}
 use Rattle.incremental.proofs.StateLaws.{kind_update}
 use Rattle.incremental.proofs.PieceLaws.{refused_piece, data_within, columns_open, map_opened, maps_refused, maps_kept}
-use borrow.Author.Rules.{rules}
 use Rattle.incremental.proofs.pieces.open_maps.Goals.{After-maps_in}
 use Rattle.incremental.proofs.pieces.open_maps.Goals as goal
 

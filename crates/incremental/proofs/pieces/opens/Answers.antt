@@ -1,13 +1,12 @@
 -- Column by column (`Opening`).
 -- Assumes nothing.
-use Prim.Native.Nat.{ℕ, ◌-◌}
+use Prim.Native.Nat.{ℕ}
 use mathlib.Core.Path.{◌≡◌, sym, ◌∙◌}
 use native.Mathlib.Omega.{arith}
 use lib.ListN.{length}
 use borrow.Author.Tests.{leb-true}
 use Rattle.shapes.proofs.Slots.{in_slots, length_slots, slot_at, slot_bit}
 use Rattle.incremental.proofs.PieceLaws.{opening_start, opening_next, opening_end}
-use borrow.Author.Rules.{rules}
 use Rattle.incremental.proofs.pieces.opens.Goals as goal
 
 pub loop-i-init : goal.loop-i-init

@@ -6,7 +6,6 @@ use Rattle.tree.specs.Table.{schemas_in}
 use Rattle.incremental.specs.Record.{before_by}
 use Rattle.incremental.proofs.StateLaws.{stopped_anywhere}
 use Rattle.incremental.proofs.PieceLaws.{waits, child_waits, change_waits, delete_waits, done_read, token_parent, token_done, token_unknown}
-use borrow.Author.Rules.{rules}
 use Rattle.incremental.proofs.pieces.read_token.Goals as goal
 
 pub returns-in-7 : goal.returns-in-7

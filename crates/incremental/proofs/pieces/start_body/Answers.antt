@@ -4,7 +4,6 @@ use native.Mathlib.Omega.{arith}
 use Rattle.tree.specs.Table.{schemas_in}
 use Rattle.incremental.specs.Record.{kind_in, map_in}
 use Rattle.incremental.proofs.PieceLaws.{body_none, body_started}
-use borrow.Author.Rules.{rules}
 use Rattle.incremental.proofs.pieces.start_body.Goals as goal
 
 pub returns-then-size-eq0 : goal.returns-then-size-eq0

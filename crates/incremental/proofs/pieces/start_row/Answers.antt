@@ -5,7 +5,6 @@ use mathlib.Core.Path.{◌≡◌}
 use native.Mathlib.Omega.{arith}
 use Rattle.tree.specs.Table.{schemas_in}
 use Rattle.incremental.proofs.PieceLaws.{row_mapless, row_started}
-use borrow.Author.Rules.{rules}
 use Rattle.incremental.proofs.pieces.start_row.Goals as goal
 
 pub open_maps-requires : goal.open_maps-requires

@@ -2,7 +2,6 @@
 -- Assumes nothing.
 use mathlib.Core.Path.{refl}
 use Rattle.incremental.proofs.StateLaws.{stands_stopped}
-use borrow.Author.Rules.{rules}
 use Rattle.incremental.proofs.pieces.stop.Goals as goal
 
 pub returns : goal.returns

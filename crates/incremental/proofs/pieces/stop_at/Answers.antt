@@ -1,6 +1,5 @@
 -- With the kind's number.
 -- Assumes nothing.
-use borrow.Author.Rules.{rules}
 use Rattle.incremental.proofs.pieces.stop_at.Goals as goal
 
 pub returns : goal.returns

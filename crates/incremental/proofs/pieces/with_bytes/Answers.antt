@@ -1,10 +1,8 @@
 -- Byte by byte (`Keeping`).
 -- Assumes nothing.
-use Prim.Native.Nat.{◌-◌}
 use mathlib.Core.Path.{◌≡◌}
 use native.Mathlib.Omega.{arith}
 use Rattle.incremental.proofs.PieceLaws.{keeping_start, keeping_next}
-use borrow.Author.Rules.{rules}
 use Rattle.incremental.proofs.pieces.with_bytes.Goals as goal
 
 pub loop-i-init : goal.loop-i-init

@@ -1,8 +1,6 @@
 -- Zeros stand up to i (`Clearing`).
 -- Assumes nothing.
-use Prim.Native.Nat.{◌-◌}
 use Rattle.incremental.proofs.RecordLaws.{clearing_start, clearing_next, clearing_end}
-use borrow.Author.Rules.{rules}
 use Rattle.incremental.proofs.record.cleared.Goals as goal
 
 pub loop-i-init : goal.loop-i-init

@@ -4,7 +4,6 @@ use mathlib.Core.Path.{refl}
 use borrow.Author.Tests.{le-leb, lt-leb, lt-ltb, le-ltb}
 use Rattle.incremental.specs.Record.{fits}
 use Rattle.incremental.proofs.RecordLaws.{room_told, room_none}
-use borrow.Author.Rules.{rules}
 use Rattle.incremental.proofs.record.is_fit.Goals as goal
 
 pub returns-then-r : goal.returns-then-r

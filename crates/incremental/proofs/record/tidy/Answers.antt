@@ -3,7 +3,6 @@
 use mathlib.Core.Path.{◌∙◌}
 use native.Mathlib.Omega.{arith}
 use Rattle.incremental.proofs.RecordLaws.{tidy_between, tidy_finished, tidy_body, tidy_child, tidy_paired, tidy_maps, tidy_prefix}
-use borrow.Author.Rules.{rules}
 use Rattle.incremental.proofs.record.tidy.Goals as goal
 
 pub returns-then-r-eq-BETWEEN : goal.returns-then-r-eq-BETWEEN

@@ -2,7 +2,6 @@
 -- Assumes nothing.
 use mathlib.Core.Path.{refl}
 use Rattle.incremental.proofs.TakeLaws.{behind_child, behind_other}
-use borrow.Author.Rules.{rules}
 use Rattle.incremental.proofs.take.behind_elements.Goals as goal
 
 pub returns-then-child-gt0 : goal.returns-then-child-gt0

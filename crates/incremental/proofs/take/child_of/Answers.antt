@@ -4,7 +4,6 @@ use mathlib.Core.Path.{refl}
 use native.Mathlib.Omega.{arith}
 use borrow.Author.Tests.{eq-eqb, ne_eqb}
 use Rattle.incremental.proofs.FieldLaws.{number_low}
-use borrow.Author.Rules.{rules}
 use Rattle.incremental.proofs.take.child_of.Goals as goal
 
 pub returns-then-paired-eq0 : goal.returns-then-paired-eq0

@@ -5,7 +5,6 @@ use Rattle.tree.specs.Table.{schemas_in}
 use Rattle.incremental.proofs.StateLaws.{place_between}
 use Rattle.incremental.proofs.PassLaws.{passes_behind}
 use Rattle.incremental.proofs.TakeLaws.{moved_elements, moved_token}
-use borrow.Author.Rules.{rules}
 use Rattle.incremental.proofs.take.from_token.Goals as goal
 
 pub behind_elements-requires : goal.behind_elements-requires

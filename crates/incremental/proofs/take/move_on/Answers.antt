@@ -5,7 +5,6 @@ use native.Mathlib.Omega.{arith}
 use Rattle.tree.specs.Table.{schemas_in}
 use Rattle.incremental.proofs.StateLaws.{stopped_anywhere, place_piece}
 use Rattle.incremental.proofs.TakeLaws.{ready_goes, ready_piece, moved_refused, moved_piece, moved_done}
-use borrow.Author.Rules.{rules}
 use Rattle.incremental.proofs.take.move_on.Goals as goal
 
 pub from_token-requires : goal.from_token-requires

@@ -5,7 +5,6 @@ use native.Mathlib.Omega.{arith}
 use Rattle.tree.specs.Table.{schemas_in}
 use Rattle.incremental.proofs.StateLaws.{place_late, body_stands}
 use Rattle.incremental.proofs.TakeLaws.{moved_body, moved_within}
-use borrow.Author.Rules.{rules}
 use Rattle.incremental.proofs.take.over_body.Goals as goal
 
 pub overflow_add-place : goal.overflow_add-place

@@ -1,10 +1,8 @@
 -- What is left of the fragment leads to the same state (`Taking`).
 -- Assumes nothing.
-use Prim.Native.Nat.{◌-◌}
 use native.Mathlib.Omega.{arith}
 use Rattle.tree.specs.Table.{schemas_in}
 use Rattle.incremental.proofs.TakeLaws.{taking_start, taking_next, taking_end, taking_ready}
-use borrow.Author.Rules.{rules}
 use Rattle.incremental.proofs.take.take_in.Goals as goal
 
 pub loop-at-init : goal.loop-at-init

@@ -1,7 +1,6 @@
 -- All eight bytes are there, or not.
 -- Assumes nothing.
 use Rattle.wire.proofs.Laws.{lacked_lt, enough_le}
-use borrow.Author.Rules.{rules}
 use Rattle.maps.proofs.maps.bits_at.Goals as goal
 
 pub few-requires : goal.few-requires

@@ -2,7 +2,6 @@
 -- Assumes nothing.
 use native.Mathlib.Omega.{arith}
 use Rattle.maps.proofs.MapBits.{map_eight}
-use borrow.Author.Rules.{rules}
 use Rattle.maps.proofs.maps.eight.Goals as goal
 
 pub returns : goal.returns

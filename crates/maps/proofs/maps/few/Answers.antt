@@ -1,6 +1,5 @@
 -- The bytes before i stand at the top.
 -- Assumes nothing.
-use Prim.Native.Nat.{◌-◌}
 use mathlib.Core.Path.{◌∙◌, refl, sym}
 use native.Mathlib.Omega.{arith}
 use lib.ListN.{drop, length-drop}

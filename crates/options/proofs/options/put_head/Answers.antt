@@ -10,7 +10,6 @@ use Rattle.wire.specs.Output.{put}
 use Rattle.wire.proofs.Laws.{put_not, put_next}
 use Rattle.options.specs.Options.{token, guid, head_bytes}
 use Rattle.options.proofs.Laws.{length_head}
-use borrow.Author.Rules.{rules}
 use native.Mathlib.Omega.{arith}
 use Rattle.options.proofs.options.put_head.Goals as goal
 

@@ -9,7 +9,6 @@ use Rattle.wire.specs.Output.{put}
 use Rattle.wire.proofs.Laws.{lacked_lt, enough_le, put_not, put_put}
 use Rattle.options.specs.Options.{string_bytes}
 use Rattle.options.proofs.Laws.{length_string}
-use borrow.Author.Rules.{rules}
 use native.Mathlib.Omega.{arith}
 use Rattle.options.proofs.options.put_string.Goals.{Else-lacks}
 use Rattle.options.proofs.options.put_string.Goals as goal

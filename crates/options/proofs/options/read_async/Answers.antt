@@ -6,7 +6,6 @@ use borrow.Author.Tests.{eq-eqb, ne_eqb}
 use Rattle.wire.specs.Read.{check}
 use Rattle.wire.specs.Integers.{told_int}
 use Rattle.options.specs.Options.{async_rest}
-use borrow.Author.Rules.{rules}
 use native.Mathlib.Omega.{arith}
 use Rattle.options.proofs.options.read_async.Goals as goal
 

@@ -5,7 +5,6 @@ use Rattle.wire.specs.Read.{told_match, refused}
 use Rattle.wire.specs.Integers.{told_int}
 use Rattle.wire.proofs.Laws.{sized_over, sized_within}
 use Rattle.options.specs.Options.{options_of}
-use borrow.Author.Rules.{rules}
 use Rattle.options.proofs.options.read_options.Goals as goal
 
 pub returns-then-s-gt-LIMIT : goal.returns-then-s-gt-LIMIT

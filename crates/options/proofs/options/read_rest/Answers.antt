@@ -4,7 +4,6 @@ use mathlib.Core.Path.{sym, ap, ◌∙◌}
 use Rattle.wire.specs.Integers.{told_int}
 use Rattle.wire.proofs.Laws.{byte_int}
 use Rattle.options.specs.Options.{options_rest, told_spans}
-use borrow.Author.Rules.{rules}
 use Rattle.options.proofs.options.read_rest.Goals as goal
 
 pub returns-in-Refused : goal.returns-in-Refused

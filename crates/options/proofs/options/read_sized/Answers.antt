@@ -7,7 +7,6 @@ use borrow.Author.Tests.{le-leb, lt-leb}
 use Rattle.wire.specs.Read.{check, told_match}
 use Rattle.wire.proofs.Laws.{told_short, lacked_lt, enough_le, whole_short, whole_fits}
 use Rattle.options.specs.Options.{options_sized}
-use borrow.Author.Rules.{rules}
 use native.Mathlib.Omega.{arith}
 use Rattle.options.proofs.options.read_sized.Goals as goal
 

@@ -6,7 +6,6 @@ use Rattle.wire.specs.Read.{check}
 use Rattle.wire.specs.Integers.{told_int}
 use Rattle.wire.proofs.Laws.{lacked, enough, enough_le}
 use Rattle.options.specs.Options.{span_at}
-use borrow.Author.Rules.{rules}
 use native.Mathlib.Omega.{arith}
 use Rattle.options.proofs.options.read_span.Goals as goal
 

@@ -2,7 +2,6 @@
 -- Assumes nothing.
 use mathlib.Core.Path.{sym, ap, ◌∙◌}
 use Rattle.options.specs.Options.{spans_of, told_span}
-use borrow.Author.Rules.{rules}
 use Rattle.options.proofs.options.read_spans.Goals as goal
 
 pub returns-in-Refused : goal.returns-in-Refused

@@ -4,7 +4,6 @@ use mathlib.Core.Path.{sym, ap, ◌∙◌}
 use Rattle.wire.specs.Read.{check, about}
 use Rattle.options.specs.Options.{options_size, told_size}
 use Rattle.options.proofs.Laws.{strings_sizes}
-use borrow.Author.Rules.{rules}
 use native.Mathlib.Omega.{arith}
 use Rattle.options.proofs.options.size_options.Goals as goal
 

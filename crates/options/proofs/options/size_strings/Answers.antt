@@ -4,7 +4,6 @@ use mathlib.Core.Path.{ap, ◌∙◌}
 use borrow.Author.Tests.{le-leb, lt-leb}
 use Rattle.wire.specs.Read.{check, about, sized_by, refused}
 use Rattle.options.specs.Options.{strings_size}
-use borrow.Author.Rules.{rules}
 use Rattle.options.proofs.options.size_strings.Goals as goal
 
 pub returns-then-first-gt-LIMIT : goal.returns-then-first-gt-LIMIT

@@ -7,7 +7,6 @@ use Rattle.wire.specs.Read.{ok}
 use Rattle.wire.proofs.Laws.{wrote_error, wrote_piece, fitting_fits, fitting_not}
 use Rattle.options.specs.Options.{options_bytes, options_size, options_written, told_size}
 use Rattle.options.proofs.Laws.{Sized, options_sized_lem, length_options, options_laid}
-use borrow.Author.Rules.{rules}
 use native.Mathlib.Omega.{arith}
 use Rattle.options.proofs.options.write_options.Goals as goal
 use Rattle.options.proofs.options.write_options.Goals.{In-Size}

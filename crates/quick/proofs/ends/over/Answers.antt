@@ -1,13 +1,12 @@
 -- The loop goes over one word more.
 -- Assumes nothing.
-use Prim.Native.Nat.{◌+◌, ◌-◌}
+use Prim.Native.Nat.{◌+◌}
 use mathlib.Core.Path.{refl, ap, ◌∙◌}
 use mathlib.Core.Logic.{inl}
 use native.Mathlib.Omega.{arith}
 use lib.ListN.{get_or}
 use Rattle.quick.proofs.StepLaws.{passes}
 use Rattle.quick.proofs.WordLaws.{word_start, word_small, word_next, word_end}
-use borrow.Author.Rules.{rules}
 use Rattle.quick.proofs.ends.over.Goals as goal
 
 pub returns-then-shapes-last : goal.returns-then-shapes-last

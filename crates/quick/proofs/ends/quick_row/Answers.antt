@@ -6,7 +6,6 @@ use native.Mathlib.Omega.{arith}
 use Prim.Native.Nat.{◌*◌}
 use lib.ListN.{get_or}
 use Rattle.quick.proofs.WayLaws.{row_says, rigid_both, rigid_says}
-use borrow.Author.Rules.{rules}
 use Rattle.quick.proofs.ends.quick_row.Goals as goal
 
 pub returns-then-shapes-k : goal.returns-then-shapes-k

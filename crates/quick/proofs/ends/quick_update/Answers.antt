@@ -4,7 +4,6 @@ use mathlib.Core.Path.{refl}
 use mathlib.Core.Logic.{inl}
 use native.Mathlib.Omega.{arith}
 use Rattle.quick.proofs.WayLaws.{update_says}
-use borrow.Author.Rules.{rules}
 use Rattle.quick.proofs.ends.quick_update.Goals as goal
 
 pub returns-then-shapes-k : goal.returns-then-shapes-k

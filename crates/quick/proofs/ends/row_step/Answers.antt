@@ -4,7 +4,6 @@ use mathlib.Core.Path.{refl}
 use native.Mathlib.Omega.{arith}
 use lib.ListN.{get_or}
 use Rattle.quick.proofs.WayLaws.{rigid_both, step_says}
-use borrow.Author.Rules.{rules}
 use Rattle.quick.proofs.ends.row_step.Goals as goal
 
 pub returns-then-shapes-eq0 : goal.returns-then-shapes-eq0

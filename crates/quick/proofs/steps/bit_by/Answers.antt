@@ -2,7 +2,6 @@
 -- Assumes nothing.
 use native.Mathlib.Omega.{arith}
 use Rattle.quick.proofs.StepLaws.{bit_off, bit_on}
-use borrow.Author.Rules.{rules}
 use Rattle.quick.proofs.steps.bit_by.Goals as goal
 
 pub returns-then-bits-mask-eq0 : goal.returns-then-bits-mask-eq0

@@ -4,7 +4,6 @@ use mathlib.Core.Path.{sym, ◌∙◌}
 use native.Mathlib.Omega.{arith}
 use Rattle.column.specs.Stops.{stop_in}
 use Rattle.quick.proofs.StepLaws.{length_allowed, length_refused, length_none}
-use borrow.Author.Rules.{rules}
 use Rattle.quick.proofs.steps.length_over.Goals as goal
 
 pub returns-then-allows : goal.returns-then-allows

@@ -6,7 +6,6 @@ use native.Mathlib.Omega.{arith}
 use lib.ListN.{length}
 use Rattle.walk.proofs.Arrays.{length_from as columns-length}
 use Rattle.walk.proofs.Slots.{length_from, column_from, bit_counted}
-use borrow.Author.Rules.{rules}
 use Rattle.row.proofs.marks.has_field.Goals as goal
 
 pub returns-then-i-ge64 : goal.returns-then-i-ge64

@@ -6,7 +6,6 @@ use mathlib.Core.List.{List}
 use Rattle.column.specs.declared.column.Column.{Column}
 use Rattle.column.specs.Packed.{packed_from}
 use Rattle.walk.specs.Rows.{opened}
-use borrow.Author.Rules.{rules}
 use Rattle.row.proofs.marks.opened.Goals as goal
 
 pub returns : goal.returns

@@ -1,6 +1,5 @@
 -- Where none was counted, none of the columns before i is a chapter.
 -- Assumes nothing.
-use Prim.Native.Nat.{◌-◌}
 use native.Mathlib.Omega.{arith}
 use Rattle.walk.proofs.Slots.{one_few, no_chapter_next}
 use borrow.Author.Rules.{rules}

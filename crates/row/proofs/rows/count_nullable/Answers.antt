@@ -1,10 +1,8 @@
 -- The loop counts the bits before column i.
 -- Assumes nothing.
-use Prim.Native.Nat.{◌-◌}
 use mathlib.Core.Path.{◌≡◌, sym, ap, ◌∙◌}
 use native.Mathlib.Omega.{arith}
 use lib.ListN.{length}
-use Rattle.column.specs.Columns.{is_nullable}
 use Rattle.column.specs.Packed.{packed_from}
 use Rattle.walk.specs.Presence.{bit_of}
 use Rattle.walk.proofs.Laws.{bit_zero, bit_all}

@@ -15,7 +15,6 @@ use Rattle.walk.proofs.Laws.{bit_all, bit_few, always_few, always_end, map_bits_
 use Rattle.walk.proofs.Found.{opened_ok}
 use Rattle.walk.proofs.BitCounts.{set_le}
 use Rattle.walk.proofs.Slots.{length_from}
-use borrow.Author.Rules.{rules}
 use Rattle.row.proofs.rows.field_count_packed.Goals as goal
 
 pub returns-then-row-gt-LIMIT : goal.returns-then-row-gt-LIMIT

@@ -2,7 +2,6 @@
 -- Assumes nothing.
 use mathlib.Core.Path.{sym, ◌∙◌}
 use Rattle.walk.proofs.Laws.{chapter_bit, chapter_plain, chapter_none}
-use borrow.Author.Rules.{rules}
 use Rattle.row.proofs.rows.is_chapter_set.Goals as goal
 
 pub returns-then-is_nullable : goal.returns-then-is_nullable

@@ -2,7 +2,6 @@
 -- Assumes nothing.
 use mathlib.Core.Path.{sym, ◌∙◌}
 use Rattle.walk.proofs.Laws.{present_chapter, present_bit, present_always}
-use borrow.Author.Rules.{rules}
 use Rattle.row.proofs.rows.is_present.Goals as goal
 
 pub returns-then-is_chapter : goal.returns-then-is_chapter

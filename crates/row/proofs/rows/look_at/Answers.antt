@@ -1,7 +1,6 @@
 -- Each way out is a law of look-up.
 -- Assumes nothing.
 use mathlib.Core.Path.{refl, sym, ap, ◌∙◌}
-use mathlib.Core.Bool.{true, false}
 use native.Mathlib.Omega.{arith}
 use Rattle.column.specs.declared.column.Column.{Column}
 use Rattle.column.specs.Columns.{is_chapter}

@@ -4,7 +4,6 @@ use mathlib.Core.Path.{ap, ◌∙◌}
 use mathlib.Core.List.{List}
 use Rattle.column.specs.declared.column.Column.{Column}
 use Rattle.walk.specs.Rows.{look_up_row}
-use borrow.Author.Rules.{rules}
 use Rattle.row.proofs.rows.look_up.Goals as goal
 
 pub returns : goal.returns

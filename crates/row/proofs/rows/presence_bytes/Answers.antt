@@ -5,7 +5,6 @@ use mathlib.Core.Path.{ap, ◌∙◌}
 use Rattle.wire.specs.Bits.{map_bytes}
 use Rattle.column.specs.Packed.{packed_from}
 use Rattle.walk.specs.Presence.{presence_bytes, nullables}
-use borrow.Author.Rules.{rules}
 use Rattle.row.proofs.rows.presence_bytes.Goals as goal
 
 pub returns : goal.returns

@@ -14,7 +14,6 @@ use Rattle.walk.proofs.Laws.{end_closed, end_refused, end_reached}
 use Rattle.walk.proofs.Found.{opened_ok, walked_from}
 use Rattle.walk.proofs.Arrays.{rest}
 use Rattle.walk.proofs.Slots.{length_from}
-use borrow.Author.Rules.{rules}
 use Rattle.row.proofs.rows.row_end_packed.Goals.{After-lesser-n, After-walk_row, In-Int}
 use Rattle.row.proofs.rows.row_end_packed.Goals as goal
 

@@ -3,7 +3,6 @@
 use mathlib.Core.Path.{sym, ap, ◌∙◌}
 use native.Mathlib.Omega.{arith}
 use Rattle.section.specs.Table.{row_count}
-use borrow.Author.Rules.{rules}
 use Rattle.section.proofs.check.check_section.Goals as goal
 
 pub check_rows-requires : goal.check_rows-requires

@@ -5,7 +5,6 @@ use native.Mathlib.Omega.{arith}
 use Rattle.section.specs.Table.{told_rows}
 use Rattle.section.proofs.Noting.{zeros, blank_of}
 use Rattle.section.proofs.Listing.{count_named, error_named}
-use borrow.Author.Rules.{rules}
 use Rattle.section.proofs.check.check_shaped.Goals as goal
 
 pub slice_bounds-scan-end : goal.slice_bounds-scan-end

@@ -6,7 +6,6 @@ use native.Mathlib.Omega.{arith}
 use Rattle.tree.specs.Schemas.{child_number, or0}
 use Rattle.tree.specs.Table.{schemas_in}
 use Rattle.section.proofs.HeadLaws.{number_in}
-use borrow.Author.Rules.{rules}
 use Rattle.section.proofs.children.find_child.Goals as goal
 
 pub returns-then-id_in-id : goal.returns-then-id_in-id

@@ -12,7 +12,6 @@ use Rattle.walk.specs.Data.{data_opened, data_passed}
 use Rattle.shapes.specs.Shapes.{slot_columns}
 use Rattle.shapes.proofs.Slots.{columns_held}
 use Rattle.section.proofs.Turns.{turned_first, turned_later}
-use borrow.Author.Rules.{rules}
 use Rattle.section.proofs.ends.turn.Goals.{After-columns_in-columns}
 use Rattle.section.proofs.ends.turn.Goals as goal
 

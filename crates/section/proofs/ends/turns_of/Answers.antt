@@ -7,7 +7,6 @@ use lib.ListN.{get_or}
 use borrow.Author.Tests.{eq-eqb, ne_eqb}
 use Rattle.tree.specs.Table.{schema_slot, start_in, count_in}
 use Rattle.shapes.proofs.Slots.{length_slots}
-use borrow.Author.Rules.{rules}
 use Rattle.section.proofs.ends.turns_of.Goals as goal
 
 pub overflow_add-result : goal.overflow_add-result

@@ -6,7 +6,6 @@ use Rattle.shapes.specs.Shapes.{slot_columns}
 use Rattle.wire.proofs.Pieces.{ok_ok}
 use Rattle.section.proofs.Turns.{end_said}
 use Rattle.section.proofs.Filling.{element_ended}
-use borrow.Author.Rules.{rules}
 use Rattle.section.proofs.fill.element_end.Goals as goal
 
 pub overflow_add-result : goal.overflow_add-result

@@ -1,6 +1,6 @@
 -- A run, a size that was noted, or an end that is asked.
 -- Assumes nothing.
-use Prim.Native.Nat.{◌-◌, ◌≤◌}
+use Prim.Native.Nat.{◌≤◌}
 use native.Mathlib.Omega.{arith}
 use lib.ListN.{length}
 use Rattle.tree.specs.Table.{schemas_in}
@@ -9,7 +9,6 @@ use Rattle.shapes.proofs.Slots.{sound_held}
 use Rattle.section.proofs.RunLaws.{run_few}
 use Rattle.section.proofs.Scanning.{step_ends}
 use Rattle.section.proofs.Filling.{fill_start, fill_inside, fill_done, fill_run, entry_some, entry_fits, entry_asked, taken_inside, size_onward, fill_next, fill_next_asked, asked_low, asked_end, no_run}
-use borrow.Author.Rules.{rules}
 use Rattle.section.proofs.fill.fill.Goals as goal
 
 pub loop-at-init : goal.loop-at-init

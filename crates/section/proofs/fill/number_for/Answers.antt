@@ -2,7 +2,6 @@
 -- Assumes nothing.
 use mathlib.Core.Path.{refl}
 use borrow.Author.Tests.{ne_eqb}
-use borrow.Author.Rules.{rules}
 use Rattle.section.proofs.fill.number_for.Goals as goal
 
 pub returns-then-kind-eq1 : goal.returns-then-kind-eq1

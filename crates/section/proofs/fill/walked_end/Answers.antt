@@ -1,6 +1,5 @@
 -- The turns over the data.
 -- Assumes nothing.
-use Prim.Native.Nat.{◌-◌}
 use mathlib.Core.Path.{refl, sym, ap, ◌∙◌}
 use mathlib.Core.Logic.{inl}
 use native.Mathlib.Omega.{arith}
@@ -8,7 +7,6 @@ use Rattle.wire.specs.Integers.{told_int}
 use Rattle.wire.proofs.Pieces.{ok_ok, bad_ok}
 use Rattle.shapes.specs.Shapes.{slot_columns}
 use Rattle.section.proofs.Turns.{turn_start, turn_inside, turn_next, turn_refused, turn_end}
-use borrow.Author.Rules.{rules}
 use Rattle.section.proofs.fill.walked_end.Goals as goal
 
 pub loop-i-init : goal.loop-i-init

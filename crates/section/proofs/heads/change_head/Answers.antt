@@ -5,7 +5,6 @@ use Rattle.wire.specs.Integers.{told_int}
 use Rattle.tree.specs.Table.{schemas_in}
 use Rattle.section.specs.Heads.{before_in}
 use Rattle.section.proofs.HeadLaws.{change_refused, change_followed}
-use borrow.Author.Rules.{rules}
 use Rattle.section.proofs.heads.change_head.Goals as goal
 
 pub returns-in-Refused : goal.returns-in-Refused

@@ -10,7 +10,6 @@ use Rattle.grammar.specs.Grammar.{other}
 use Rattle.grammar.specs.Reader.{id_at}
 use Rattle.section.specs.Heads.{data_head}
 use Rattle.section.proofs.HeadLaws.{id_short, id_read, child_short, child_unknown, child_known, number_none, number_some}
-use borrow.Author.Rules.{rules}
 use Rattle.section.proofs.heads.child_head.Goals as goal
 
 pub returns-then-number-eq0 : goal.returns-then-number-eq0

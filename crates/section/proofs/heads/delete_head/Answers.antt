@@ -5,7 +5,6 @@ use mathlib.Core.List.{[]}
 use Rattle.wire.specs.Integers.{told_int}
 use Rattle.section.specs.Heads.{before_in}
 use Rattle.section.proofs.HeadLaws.{delete_refused, delete_read}
-use borrow.Author.Rules.{rules}
 use Rattle.section.proofs.heads.delete_head.Goals as goal
 
 pub returns-in-Refused : goal.returns-in-Refused

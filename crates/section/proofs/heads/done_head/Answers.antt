@@ -4,7 +4,6 @@ use mathlib.Core.Path.{sym}
 use mathlib.Core.List.{[]}
 use Rattle.grammar.specs.Grammar.{other}
 use Rattle.section.proofs.HeadLaws.{done_end, done_trailing}
-use borrow.Author.Rules.{rules}
 use Rattle.section.proofs.heads.done_head.Goals as goal
 
 pub returns-then-section-at : goal.returns-then-section-at

@@ -7,7 +7,6 @@ use lib.ListN.{length}
 use Rattle.tree.specs.Table.{schemas_in}
 use Rattle.section.specs.Heads.{before_in}
 use Rattle.section.proofs.HeadLaws.{head_short, head_parent, head_child, head_change, head_delete, head_done, head_unknown}
-use borrow.Author.Rules.{rules}
 use Rattle.section.proofs.heads.head_at.Goals as goal
 
 pub returns-then-section-at : goal.returns-then-section-at

@@ -9,7 +9,6 @@ use Rattle.wire.specs.Integers.{told_int}
 use Rattle.grammar.specs.Reader.{follows, id_at}
 use Rattle.section.specs.Heads.{before_in}
 use Rattle.section.proofs.HeadLaws.{id_short, id_read, follows_child, follows_nothing, paired_short, paired_found, paired_other}
-use borrow.Author.Rules.{rules}
 use Rattle.section.proofs.heads.paired_id.Goals as goal
 
 pub returns-then-id_in-id : goal.returns-then-id_in-id

@@ -13,7 +13,6 @@ use Rattle.grammar.specs.Grammar.{Row}
 use Rattle.grammar.specs.Reader.{section}
 use Rattle.section.specs.Table.{told_rows}
 use Rattle.section.proofs.Listing.{rows_told_lem, error_told, fitting_refused, fitting_full, fitting_count}
-use borrow.Author.Rules.{rules}
 use Rattle.section.proofs.list.list_noting.Goals.{In-Rows}
 use Rattle.section.proofs.list.list_noting.Goals as goal
 

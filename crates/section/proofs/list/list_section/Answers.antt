@@ -2,7 +2,6 @@
 -- Assumes nothing.
 use native.Mathlib.Omega.{arith}
 use Rattle.section.proofs.Listing.{listed_error, listed_refused, listed_fitting}
-use borrow.Author.Rules.{rules}
 use Rattle.section.proofs.list.list_section.Goals as goal
 
 pub list_rows-requires : goal.list_rows-requires

@@ -3,7 +3,6 @@
 use mathlib.Core.Path.{sym}
 use native.Mathlib.Omega.{arith}
 use Rattle.section.proofs.Noting.{zeros, blank_of}
-use borrow.Author.Rules.{rules}
 use Rattle.section.proofs.list.list_sized.Goals as goal
 
 pub slice_bounds-list_noting-end : goal.slice_bounds-list_noting-end

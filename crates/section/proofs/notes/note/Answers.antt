@@ -5,7 +5,6 @@ use native.Mathlib.Omega.{arith}
 use lib.ListN.{length-set}
 use Rattle.section.specs.Sizes.{passed, ended}
 use Rattle.section.proofs.Noting.{note_one, note_three}
-use borrow.Author.Rules.{rules}
 use Rattle.section.proofs.notes.note.Goals as goal
 
 pub returns-then-stepped : goal.returns-then-stepped

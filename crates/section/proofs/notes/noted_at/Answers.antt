@@ -6,7 +6,6 @@ use native.Mathlib.Omega.{arith}
 use lib.ListN.{length}
 use Rattle.wire.proofs.Laws.{lacked_lt, enough_le}
 use Rattle.section.proofs.Noting.{read_stepped, read_none, read_one, read_three}
-use borrow.Author.Rules.{rules}
 use Rattle.section.proofs.notes.noted_at.Goals as goal
 
 pub returns-then-stepped : goal.returns-then-stepped

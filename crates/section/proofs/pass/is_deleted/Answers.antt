@@ -5,7 +5,6 @@ use mathlib.Core.Path.{◌≡◌, sym, ap, ◌∙◌}
 use native.Mathlib.Omega.{arith}
 use Rattle.wire.specs.Integers.{told_int}
 use Rattle.section.proofs.Passing.{deleted_at}
-use borrow.Author.Rules.{rules}
 use Rattle.section.proofs.pass.is_deleted.Goals as goal
 
 pub returns-then-section-at : goal.returns-then-section-at

@@ -1,10 +1,8 @@
 -- A run, or an element that was said, keeps what holds before it.
 -- Assumes nothing.
-use Prim.Native.Nat.{◌-◌}
 use native.Mathlib.Omega.{arith}
 use Rattle.section.proofs.RunLaws.{run_few}
 use Rattle.section.proofs.Passing.{pass_start, pass_run, pass_change, pass_row, pass_deleted, passed_to, passed_in, none_to, none_in}
-use borrow.Author.Rules.{rules}
 use Rattle.section.proofs.pass.pass_elements.Goals as goal
 
 pub returns-then-is_outside : goal.returns-then-is_outside

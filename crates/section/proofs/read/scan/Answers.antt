@@ -1,6 +1,5 @@
 -- A run, an element that was said, or one whose data the turns go over keeps what holds before it.
 -- Assumes nothing.
-use Prim.Native.Nat.{◌-◌}
 use mathlib.Core.Path.{◌≡◌, refl, sym, ap, ◌∙◌}
 use mathlib.Core.Logic.{inl}
 use native.Mathlib.Omega.{arith}
@@ -16,7 +15,6 @@ use Rattle.section.proofs.Scan.{Ahead}
 use Rattle.section.proofs.RunLaws.{run_few}
 use Rattle.section.proofs.Scanning.{scan_start, scan_refused, few_rows, scan_run, ScanDeleted, scan_deleted, scan_ahead, ahead_number, ahead_inside, scan_data_refused, data_end_lem, scan_row_ended, scan_change_ended, scanned_rows, scanned_refused}
 use Rattle.section.proofs.Turns.{turn_start, turn_inside, turn_next, turn_refused, turn_end, said_end}
-use borrow.Author.Rules.{rules}
 use Rattle.section.proofs.read.scan.Goals.{After-loop-i, In-Data, In-Delete}
 use Rattle.section.proofs.read.scan.Goals as goal
 

@@ -1,9 +1,7 @@
 -- The run so far, where it stands, and its rows.
 -- Assumes nothing.
-use Prim.Native.Nat.{◌-◌}
 use native.Mathlib.Omega.{arith}
 use Rattle.section.proofs.RunLaws.{run_none, run_next, run_few, run_more, laid_run_none, laid_run_next}
-use borrow.Author.Rules.{rules}
 use Rattle.section.proofs.runs.put_run.Goals as goal
 
 pub returns-then-step-eq0 : goal.returns-then-step-eq0

@@ -1,9 +1,7 @@
 -- The run so far, and where it stands.
 -- Assumes nothing.
-use Prim.Native.Nat.{◌-◌}
 use native.Mathlib.Omega.{arith}
 use Rattle.section.proofs.RunLaws.{run_none, run_next, run_two, run_few}
-use borrow.Author.Rules.{rules}
 use Rattle.section.proofs.runs.run.Goals as goal
 
 pub returns-then-step-eq0 : goal.returns-then-step-eq0

@@ -9,7 +9,6 @@ use Rattle.tree.specs.Table.{schemas_in}
 use Rattle.grammar.specs.Reader.{id_at}
 use Rattle.section.specs.Heads.{before_in}
 use Rattle.section.proofs.HeadLaws.{head_parent, said_child, said_change}
-use borrow.Author.Rules.{rules}
 use Rattle.section.proofs.said.head_said.Goals as goal
 
 pub returns-then-lacks : goal.returns-then-lacks

@@ -3,7 +3,6 @@
 use mathlib.Core.Path.{refl}
 use native.Mathlib.Omega.{arith}
 use Rattle.section.proofs.Filling.{entry_is}
-use borrow.Author.Rules.{rules}
 use Rattle.section.proofs.table.entry_at.Goals as goal
 
 pub bounds-section-at : goal.bounds-section-at

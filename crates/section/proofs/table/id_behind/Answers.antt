@@ -1,7 +1,6 @@
 -- The bytes, where they are whole.
 -- Assumes nothing.
 use Rattle.section.proofs.HeadLaws.{id_or_zero}
-use borrow.Author.Rules.{rules}
 use Rattle.section.proofs.table.id_behind.Goals as goal
 
 pub returns : goal.returns

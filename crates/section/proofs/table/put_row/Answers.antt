@@ -5,7 +5,6 @@ use native.Mathlib.Omega.{arith}
 use lib.ListN.{length-set}
 use Rattle.wire.proofs.Laws.{put_not}
 use Rattle.section.proofs.Laid.{put_four}
-use borrow.Author.Rules.{rules}
 use Rattle.section.proofs.table.put_row.Goals as goal
 
 pub returns-then-table-at : goal.returns-then-table-at

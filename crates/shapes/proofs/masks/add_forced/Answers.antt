@@ -1,6 +1,5 @@
 -- The masks have the bits of the columns before i.
 -- Assumes nothing.
-use Prim.Native.Nat.{◌-◌}
 use native.Mathlib.Omega.{arith}
 use lib.ListN.{length-set}
 use Rattle.shapes.proofs.Slots.{in_slots, length_slots}

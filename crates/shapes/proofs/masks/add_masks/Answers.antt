@@ -1,6 +1,5 @@
 -- The mask of presence has the bits of the columns before i; then those of update data.
 -- Assumes nothing.
-use Prim.Native.Nat.{◌-◌}
 use mathlib.Core.Path.{sym}
 use native.Mathlib.Omega.{arith}
 use lib.ListN.{length-set}

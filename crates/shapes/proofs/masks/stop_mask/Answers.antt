@@ -2,7 +2,6 @@
 -- Assumes nothing.
 use mathlib.Core.Path.{refl}
 use Rattle.shapes.proofs.MaskLaws.{mask_is}
-use borrow.Author.Rules.{rules}
 use Rattle.shapes.proofs.masks.stop_mask.Goals as goal
 
 pub returns-then-free : goal.returns-then-free

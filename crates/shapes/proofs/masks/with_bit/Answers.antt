@@ -1,7 +1,6 @@
 -- The bit is set, or the mask stays.
 -- Assumes nothing.
 use Rattle.shapes.proofs.MaskLaws.{bit_added, bit_kept}
-use borrow.Author.Rules.{rules}
 use Rattle.shapes.proofs.masks.with_bit.Goals as goal
 
 pub returns-then-on : goal.returns-then-on

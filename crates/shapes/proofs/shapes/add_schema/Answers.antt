@@ -4,7 +4,6 @@ use native.Mathlib.Omega.{arith}
 use lib.ListN.{length-set}
 use Rattle.shapes.proofs.Slots.{length_slots}
 use Rattle.shapes.proofs.ShapesMade.{schema_top, schema_nested}
-use borrow.Author.Rules.{rules}
 use Rattle.shapes.proofs.shapes.add_schema.Goals as goal
 
 pub add_masks-requires : goal.add_masks-requires

@@ -1,6 +1,6 @@
 -- The loop goes on with one more column, a stop or not.
 -- Assumes nothing.
-use Prim.Native.Nat.{◌+◌, ◌-◌}
+use Prim.Native.Nat.{◌+◌}
 use mathlib.Core.Path.{ap, sym, ◌∙◌}
 use mathlib.Core.Bool.{Bool}
 use native.Mathlib.Omega.{arith}
@@ -12,7 +12,6 @@ use Rattle.walk.specs.Presence.{one}
 use Rattle.shapes.specs.Shapes.{bit_mask}
 use Rattle.shapes.proofs.Slots.{in_slots, length_slots, slot_at}
 use Rattle.shapes.proofs.StopsMade.{one_most, grow_start, grow_stop, grow_plain, grow_fits, grow_end}
-use borrow.Author.Rules.{rules}
 use Rattle.shapes.proofs.shapes.add_stops.Goals as goal
 
 pub loop-i-init : goal.loop-i-init

@@ -1,10 +1,9 @@
 -- The loop goes on with one more schema.
 -- Assumes nothing.
-use Prim.Native.Nat.{ℕ, ◌-◌}
+use Prim.Native.Nat.{ℕ}
 use native.Mathlib.Omega.{arith}
 use mathlib.Core.Path.{◌≡◌, refl}
 use Rattle.shapes.proofs.ShapesMade.{keep_start, keep_next, keep_room, keep_end}
-use borrow.Author.Rules.{rules}
 use Rattle.shapes.proofs.shapes.keep_schemas.Goals as goal
 
 pub returns-then-schemas-gt-SCHEMAS : goal.returns-then-schemas-gt-SCHEMAS

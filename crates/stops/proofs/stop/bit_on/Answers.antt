@@ -1,7 +1,6 @@
 -- 63 less the stop's bit is its place.
 -- Assumes nothing.
 use Rattle.stops.proofs.StopLaws.{bit_placed}
-use borrow.Author.Rules.{rules}
 use Rattle.stops.proofs.stop.bit_on.Goals as goal
 
 pub returns : goal.returns

@@ -5,7 +5,6 @@ use mathlib.Core.Path.{ap, ◌∙◌}
 use lib.Dec.{eqb}
 use Rattle.column.specs.Stops.{flag}
 use Rattle.stops.proofs.StopLaws.{flags_told}
-use borrow.Author.Rules.{rules}
 use Rattle.stops.proofs.stop.flags_of.Goals as goal
 
 pub returns : goal.returns

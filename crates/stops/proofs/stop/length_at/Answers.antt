@@ -3,7 +3,6 @@
 use mathlib.Core.Path.{sym, ◌∙◌}
 use native.Mathlib.Omega.{arith}
 use Rattle.stops.proofs.StopLaws.{long_length, short_none, short_whole}
-use borrow.Author.Rules.{rules}
 use Rattle.stops.proofs.stop.length_at.Goals as goal
 
 pub returns-then-is_long_in : goal.returns-then-is_long_in

@@ -1,7 +1,6 @@
 -- The bytes are there or not.
 -- Assumes nothing.
 use Rattle.stops.proofs.StopLaws.{long_before}
-use borrow.Author.Rules.{rules}
 use Rattle.stops.proofs.stop.long_before.Goals as goal
 
 pub returns : goal.returns

@@ -2,7 +2,6 @@
 -- Assumes nothing.
 use mathlib.Core.Path.{refl}
 use native.Mathlib.Omega.{arith}
-use borrow.Author.Rules.{rules}
 use Rattle.stops.proofs.stop.prefix_in.Goals as goal
 
 pub returns-then-is_long_in : goal.returns-then-is_long_in

@@ -3,7 +3,6 @@
 use native.Mathlib.Omega.{arith}
 use mathlib.Core.Path.{sym}
 use Rattle.stops.proofs.StopLaws.{short_none, short_before}
-use borrow.Author.Rules.{rules}
 use Rattle.stops.proofs.stop.short_before.Goals as goal
 
 pub returns-then-s-end : goal.returns-then-s-end

@@ -6,7 +6,6 @@ use native.Mathlib.Omega.{arith}
 use Rattle.column.specs.Columns.{width}
 use Rattle.column.proofs.Stops.{width_few}
 use Rattle.stops.proofs.StopLaws.{size_prefix, size_width}
-use borrow.Author.Rules.{rules}
 use Rattle.stops.proofs.stop.size_of.Goals as goal
 
 pub returns-then-is_variable : goal.returns-then-is_variable

@@ -2,7 +2,6 @@
 -- Assumes nothing.
 use native.Mathlib.Omega.{arith}
 use Rattle.column.specs.Stops.{stop_flags, stop_of, stop_word}
-use borrow.Author.Rules.{rules}
 use Rattle.stops.proofs.stop.stop_sized.Goals as goal
 
 pub returns : goal.returns

@@ -1,6 +1,5 @@
 -- The width is the column's.
 -- Assumes nothing.
-use borrow.Author.Rules.{rules}
 use Rattle.stops.proofs.stop.stop_word.Goals as goal
 
 pub returns : goal.returns

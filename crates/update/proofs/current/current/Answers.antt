@@ -6,12 +6,10 @@ use native.Mathlib.Omega.{arith}
 use lib.ListN.{length}
 use Rattle.wire.specs.Read.{limit, refused}
 use Rattle.column.specs.Layout.{columns_in}
-use Rattle.walk.specs.Rows.{look_up}
 use Rattle.walk.specs.Updates.{look_update, from_row, current, current_row}
 use Rattle.update.specs.Told.{told_update}
 use Rattle.walk.proofs.Laws.{look_up_sized}
 use Rattle.walk.proofs.UpdateLaws.{look_update_sized, current_large_update, current_large_row, current_sized, current_refused, current_updated, current_forced, current_unchanged, current_chapter}
-use borrow.Author.Rules.{rules}
 use Rattle.update.proofs.current.current.Goals.{After-look_update, Else-row-gt-LIMIT, Else-update-gt-LIMIT}
 use Rattle.update.proofs.current.current.Goals as goal
 

@@ -3,7 +3,6 @@
 use mathlib.Core.Path.{sym, ap}
 use Rattle.row.specs.Told.{told_look_up}
 use Rattle.walk.proofs.UpdateLaws.{from_row_lem, from_row_bad}
-use borrow.Author.Rules.{rules}
 use Rattle.update.proofs.current.from_row.Goals as goal
 
 pub returns-in-Found : goal.returns-in-Found

@@ -8,7 +8,6 @@ use Rattle.walk.specs.Updates.{update_bytes}
 use Rattle.walk.proofs.Laws.{map_few}
 use Rattle.walk.proofs.Arrays.{length_from, column_from, update_bytes_lem}
 use Rattle.walk.proofs.Data.{has_carried, has_present}
-use borrow.Author.Rules.{rules}
 use Rattle.update.proofs.data.has_data.Goals as goal
 
 pub returns-then-i-ge64 : goal.returns-then-i-ge64

@@ -4,7 +4,6 @@ use Prim.Native.Nat.{ℕ}
 use mathlib.Core.Path.{ap, ◌∙◌}
 use Rattle.column.specs.Layout.{columns_from}
 use Rattle.walk.specs.Updates.{update_opened}
-use borrow.Author.Rules.{rules}
 use Rattle.update.proofs.data.open_data.Goals as goal
 
 pub returns-then-update : goal.returns-then-update

@@ -7,7 +7,6 @@ use Rattle.column.specs.Layout.{columns_from}
 use Rattle.column.specs.Fields.{told_field}
 use Rattle.walk.proofs.Arrays.{length_from, column_from}
 use Rattle.walk.proofs.Data.{data_column, passed_absent, passed_field, passed_refused}
-use borrow.Author.Rules.{rules}
 use Rattle.update.proofs.data.pass_column.Goals as goal
 
 pub returns-then-i-ge64 : goal.returns-then-i-ge64

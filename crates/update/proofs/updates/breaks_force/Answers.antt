@@ -2,7 +2,6 @@
 -- Assumes nothing.
 use mathlib.Core.Path.{sym, ◌∙◌}
 use Rattle.walk.proofs.UpdateLaws.{force_not, force_alone, force_plain, force_well}
-use borrow.Author.Rules.{rules}
 use Rattle.update.proofs.updates.breaks_force.Goals as goal
 
 pub returns-then-is_nullable : goal.returns-then-is_nullable

@@ -2,7 +2,6 @@
 -- Assumes nothing.
 use mathlib.Core.Path.{sym, ◌∙◌}
 use Rattle.walk.proofs.UpdateLaws.{carried_not, carried_forced, carried_field}
-use borrow.Author.Rules.{rules}
 use Rattle.update.proofs.updates.is_carried.Goals as goal
 
 pub returns-then-is_set-2 : goal.returns-then-is_set-2

@@ -2,7 +2,6 @@
 -- Assumes nothing.
 use mathlib.Core.Path.{sym, ◌∙◌}
 use Rattle.walk.proofs.UpdateLaws.{marked_chapter, marked_none}
-use borrow.Author.Rules.{rules}
 use Rattle.update.proofs.updates.is_chapter_marked.Goals as goal
 
 pub returns-then-is_chapter : goal.returns-then-is_chapter

@@ -1,6 +1,6 @@
 -- Each way out is a law of look-up in update data.
 -- Assumes nothing.
-use Prim.Native.Nat.{ℕ, ◌≤◌, ◌<◌, ◌+◌, ◌*◌, ◌-◌}
+use Prim.Native.Nat.{ℕ, ◌≤◌, ◌<◌, ◌+◌, ◌*◌}
 use mathlib.Core.Path.{◌≡◌, sym, ap, ◌∙◌}
 use mathlib.Core.Bool.{true, false}
 use native.Mathlib.Omega.{arith}
@@ -21,7 +21,6 @@ use Rattle.walk.proofs.Found.{walk_few}
 use Rattle.walk.proofs.UpdateLaws.{update_walked_from, look_update_chapter, look_update_unchanged, look_update_null, look_update_walk, look_update_bad, look_update_found}
 use Rattle.walk.proofs.UpdateFound.{update_end_told}
 use Rattle.walk.proofs.Arrays.{length_from, asked, update_bytes_lem, rest, few_prefixes}
-use borrow.Author.Rules.{rules}
 use Rattle.update.proofs.updates.update_at.Goals.{After-column_of-column, After-field_at, After-is_set-then-is_set, After-map_bytes-size, After-walk_update, Else-is_chapter, In-At, Then-is_set}
 use Rattle.update.proofs.updates.update_at.Goals as goal
 

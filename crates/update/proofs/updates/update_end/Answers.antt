@@ -6,7 +6,6 @@ use mathlib.Core.List.{List}
 use Rattle.column.specs.declared.column.Column.{Column}
 use Rattle.column.specs.Layout.{columns_from, columns_in}
 use Rattle.walk.specs.Updates.{update_end}
-use borrow.Author.Rules.{rules}
 use Rattle.update.proofs.updates.update_end.Goals as goal
 
 pub returns : goal.returns

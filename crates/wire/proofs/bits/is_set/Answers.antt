@@ -1,8 +1,6 @@
 -- The test of the byte is the definition's; past the map's end the byte counts as 0.
 -- Assumes nothing.
-use Prim.Native.Nat.{◌-◌}
 use mathlib.Core.Path.{refl, sym}
-use borrow.Author.Rules.{rules}
 use Rattle.wire.specs.Bits.{bit_at, bit_set}
 use Rattle.wire.proofs.Laws.{bit_past}
 use Rattle.wire.proofs.bits.is_set.Goals as goal

@@ -1,6 +1,5 @@
 -- Assumes nothing.
 use native.Mathlib.Omega.{arith}
-use borrow.Author.Rules.{rules}
 use Rattle.wire.specs.Bits.{map_bytes}
 use Rattle.wire.proofs.bits.map_bytes.Goals as goal
 

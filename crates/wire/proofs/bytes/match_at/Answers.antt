@@ -1,10 +1,8 @@
 -- The loop goes on with the bytes that are left to match.
 -- Assumes nothing.
 use mathlib.Core.Path.{refl, sym, ◌∙◌}
-use Prim.Native.Nat.{◌-◌}
 use native.Mathlib.Omega.{arith}
 use Rattle.wire.proofs.Laws.{told_short, constants_end, constants_short, constants_differ, constants_next}
-use borrow.Author.Rules.{rules}
 use Rattle.wire.proofs.bytes.match_at.Goals as goal
 
 pub loop-i-init : goal.loop-i-init

@@ -1,7 +1,6 @@
 -- The bytes that are read are those of the definition, one by one.
 -- Assumes nothing.
 use Rattle.wire.proofs.Laws.{int_four}
-use borrow.Author.Rules.{rules}
 use Rattle.wire.proofs.integer.four.Goals as goal
 
 pub returns : goal.returns

@@ -1,6 +1,5 @@
 -- The array that is copied holds the bytes of the definition.
 -- Assumes nothing.
-use borrow.Author.Rules.{rules}
 use Rattle.wire.specs.Integers.{int_bytes}
 use Rattle.wire.proofs.integer.put_u32.Goals as goal
 

@@ -2,10 +2,8 @@
 -- Assumes nothing.
 use Prim.Native.Nat.{◌+◌, ◌≤◌}
 use mathlib.Core.Path.{sym, ◌∙◌}
-use native.Mathlib.Omega.{arith}
 use lib.ListN.{length}
 use Rattle.wire.proofs.Laws.{told_short, lacked_lt, enough_le, int_short, int_two}
-use borrow.Author.Rules.{rules}
 use Rattle.wire.proofs.integer.u16_at.Goals as goal
 use Rattle.wire.proofs.integer.u16_at.Lts as lts
 use Rattle.wire.proofs.integer.u16_at.Tie as tie

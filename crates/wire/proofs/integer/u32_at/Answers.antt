@@ -3,7 +3,6 @@
 use mathlib.Core.Path.{sym, ap, ◌∙◌}
 use Rattle.wire.specs.Read.{ok}
 use Rattle.wire.proofs.Laws.{told_short, lacked_lt, enough_le, int_short, int_fits}
-use borrow.Author.Rules.{rules}
 use Rattle.wire.proofs.integer.u32_at.Goals as goal
 
 pub returns-then-lacks : goal.returns-then-lacks

@@ -2,7 +2,6 @@
 -- Assumes nothing.
 use mathlib.Core.Path.{refl}
 use borrow.Author.Tests.{le-leb, lt-leb}
-use borrow.Author.Rules.{rules}
 use Rattle.wire.proofs.integer.u32_before.Goals as goal
 
 pub returns-then-s-end : goal.returns-then-s-end

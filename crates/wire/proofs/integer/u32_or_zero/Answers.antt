@@ -2,7 +2,6 @@
 -- Assumes nothing.
 use mathlib.Core.Path.{refl}
 use Rattle.wire.proofs.Laws.{lacked, enough, enough_le}
-use borrow.Author.Rules.{rules}
 use Rattle.wire.proofs.integer.u32_or_zero.Goals as goal
 
 pub returns-then-lacks : goal.returns-then-lacks

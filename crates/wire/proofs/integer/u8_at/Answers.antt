@@ -3,7 +3,6 @@
 use mathlib.Core.Path.{sym, ◌∙◌}
 use native.Mathlib.Omega.{arith}
 use Rattle.wire.proofs.Laws.{told_short, int_short, int_one}
-use borrow.Author.Rules.{rules}
 use Rattle.wire.proofs.integer.u8_at.Goals as goal
 
 pub returns-then-s-at : goal.returns-then-s-at

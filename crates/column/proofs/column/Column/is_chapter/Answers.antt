@@ -1,7 +1,6 @@
 -- By the code of the chapter.
 -- Assumes nothing.
 use Rattle.column.proofs.Laws.{chapter_code_lem}
-use borrow.Author.Rules.{rules}
 use Rattle.column.proofs.column.Column.is_chapter.Goals as goal
 
 pub returns : goal.returns

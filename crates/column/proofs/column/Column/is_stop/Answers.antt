@@ -2,7 +2,6 @@
 -- Assumes nothing.
 use mathlib.Core.Path.{sym, ◌∙◌}
 use Rattle.column.proofs.Stops.{stop_chapter, stop_nullable, stop_plain}
-use borrow.Author.Rules.{rules}
 use Rattle.column.proofs.column.Column.is_stop.Goals as goal
 
 pub returns-then-is_chapter : goal.returns-then-is_chapter

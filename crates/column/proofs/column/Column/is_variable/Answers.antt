@@ -2,7 +2,6 @@
 -- Assumes nothing.
 use mathlib.Core.Path.{sym}
 use Rattle.column.proofs.Laws.{bytes_code, text_code, wide_code}
-use borrow.Author.Rules.{rules}
 use Rattle.column.proofs.column.Column.is_variable.Goals as goal
 
 pub returns-then-self-eq-BYTES : goal.returns-then-self-eq-BYTES

@@ -2,7 +2,6 @@
 -- Assumes nothing.
 use mathlib.Core.Path.{sym, ◌∙◌}
 use Rattle.column.proofs.Laws.{length_free, length_ruled}
-use borrow.Author.Rules.{rules}
 use Rattle.column.proofs.column.Column.length_error.Goals as goal
 
 pub returns-then-is_variable : goal.returns-then-is_variable

@@ -1,7 +1,6 @@
 -- The branch is the definition's test of the kind.
 -- Assumes nothing.
 use mathlib.Core.Path.{sym, ◌∙◌}
-use borrow.Author.Rules.{rules}
 use Rattle.column.proofs.Laws.{prefix_variable, prefix_plain}
 use Rattle.column.proofs.column.Column.prefix_bytes.Goals as goal
 
