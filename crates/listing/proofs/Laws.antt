@@ -193,6 +193,12 @@ lines_next table i a b room =
       few = omega (arith, a.few, b.few);
     }
 
+pub lines_end : {text exit : Bytes} {at end : ℕ} (table : List ℕ) (i n : ℕ) → i ≤ n → n ≤ i → AddsThe (RowLines (rows_of i table)) (84 * i) text exit at end →
+    AddsThe (RowLines (rows_of n table)) (84 * n) text exit at end
+lines_end {text} {exit} {at} {end} table i n h k a =
+    let z : i ≡ n = omega arith in
+    subst (λ (m : ℕ). AddsThe (RowLines (rows_of m table)) (84 * m) text exit at end) z a
+
 -- the words of a refusal, by what it is about
 module _ (name : Input) {a b : ℕ} (p : a ≡ input_number name) (q : b ≡ input_number input.Schema) where
   pub of_sheet : a ≡ b → sheet_refused ≡ refusal_words name
