@@ -1,6 +1,6 @@
 #!/usr/bin/env bash
 # The archive against hand-written Rust of the same rules: the same files, in one process, call by call in turn.
-# After `rt staticlib adtg_c`, or with another archive as its word (race/trial.py makes one of sources that are not proved).
+# After `tools/prove.sh --archive`, or with another archive as its word (race/trial.py makes one of sources that are not proved).
 # On an idle machine; noise moves a ratio by some 5 percent.
 set -eu
 archive=${1:+$(realpath "$1")}

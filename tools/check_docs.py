@@ -34,7 +34,7 @@ def promises():
         if not files:
             continue
         for name in words:
-            if re.match(r'^[A-Za-z][\w-]*$', name) and name not in ('listing',):
+            if re.match(r"^[A-Za-z][\w'-]*$", name) and name not in ('listing',):
                 looked += 1
                 if not declared(name, files):
                     wrong.append(f'line {number}: {name} is in none of its files')

@@ -5,8 +5,8 @@
 #     tools/prove.sh NAME...      these crates and what they depend on
 #     tools/prove.sh --archive    the archive for C and Rust, target/staticlib/libadtg_c.a
 #
-# On a terminal one line shows how far the prover is. The last line says how many crates are proved. Where one is not, the errors
-# are printed. The exit status is that of rt.
+# A program that is proved is also built and run, and put into target/bin. On a terminal one line shows how far the prover is. The last
+# line says how many crates are proved. Where one is not, the errors are printed. The exit status is that of rt.
 set -u
 cd "$(dirname "$0")/.." || exit 2
 root=$(pwd -P)
@@ -14,7 +14,8 @@ log=target/prove.log
 most=40 # lines of errors that are printed
 # The lines of errors: those of the prover and the compiler, functions that are not proved, and what rt says of anything not done.
 wrong='^[^ ]*: error|^error|^note: [^ ]+:[0-9]+:[0-9]+: |^fn [^ ]+: (not proved|no proof|could not tell)|^rt: '
-right='^rt: [A-Za-z0-9_]+ (proved \(|ran[ ,])'
+# What rt says along the way.
+right='^rt: ([A-Za-z0-9_]+: (begins with|another copy)|chose|running|nothing has changed|rt check --fix-imports)'
 
 say() { echo "tools/prove.sh: $*" >&2; }
 
@@ -30,8 +31,8 @@ count_crates() {
     WANTED="$*" awk '
         { sub(/#.*/, ""); colon = index($0, ":") }
         colon {
-            name = substr($0, 1, colon - 1)
-            gsub(/[ \t]/, "", name)
+            split(substr($0, 1, colon - 1), head, " ") # the name, and what kind of crate it is
+            name = head[1]
             deps[name] = substr($0, colon + 1)
             all = all " " name
         }
@@ -50,15 +51,47 @@ count_crates() {
         }' crates.txt
 }
 
-# Reads what rt prints. On a terminal one line shows how many crates are proved.
+# Proves one crate and what it depends on, and builds and runs it where it is a program.
+prove_crate() {
+    if [ -f "crates/$1/src/main.rt" ]; then
+        (cd "crates/$1" && rt run </dev/null) && mkdir -p target/bin && cp "crates/$1/out/$1" target/bin/
+    else
+        (cd "crates/$1" && rt check)
+    fi
+}
+
+prove_all() {
+    local main crate
+    rt all check || return
+    for main in crates/*/src/main.rt; do
+        crate=${main%/src/main.rt}
+        prove_crate "${crate##*/}" || return
+    done
+}
+
+prove_named() {
+    local name
+    for name in "$@"; do
+        prove_crate "$name" || return
+    done
+}
+
+build_archive() {
+    (cd crates/adtg_c && rt lib) && mkdir -p target/staticlib && cp crates/adtg_c/out/libadtg_c.a target/staticlib/
+}
+
+# Reads what rt prints. On a terminal one line shows how many crates are checked.
 show_progress() {
-    local proved=0 line
+    local line name
+    local -A checked=()
     [ -t 1 ] || { cat >/dev/null; return; }
-    printf 'proved 0 of %d' "$total"
+    printf 'checked 0 of %d' "$total"
     while IFS= read -r line; do
-        [[ $line =~ ^rt:\ ([A-Za-z0-9_]+)\ proved\ \( ]] || continue
-        proved=$((proved + 1))
-        printf '\r\033[Kproved %d of %d: %s' "$proved" "$total" "${BASH_REMATCH[1]}"
+        [[ $line =~ ^(==|crate)\ ([a-z0-9_]+)(:\ modules\ loaded=.*)?$ ]] || continue
+        name=${BASH_REMATCH[2]}
+        [ "$name" != summary ] || continue
+        checked[$name]=1
+        printf '\r\033[Kchecked %d of %d: %s' "${#checked[@]}" "$total" "$name"
     done
     printf '\r\033[K'
 }
@@ -80,35 +113,35 @@ show_errors() {
         END { if (NR > ENVIRON["MOST"]) print "and " NR - ENVIRON["MOST"] " more lines" }' >&2
 }
 
+wrote=
 case ${1:-} in
     --archive)
         [ $# -eq 1 ] || usage
-        words=(staticlib adtg_c)
+        what=(build_archive)
         total=$(count_crates adtg_c)
+        wrote=', wrote target/staticlib/libadtg_c.a'
         ;;
     -*) usage ;;
+    '')
+        what=(prove_all)
+        total=$(count_crates)
+        ;;
     *)
-        words=(check "$@")
+        for name in "$@"; do
+            [ "$(count_crates "$name")" -gt 0 ] || { say "crates.txt has no crate $name"; exit 2; }
+        done
+        what=(prove_named "$@")
         total=$(count_crates "$@")
         ;;
 esac
 command -v rt >/dev/null || { say "rt, the command of the Rattle kit, is not on the PATH"; exit 2; }
 
 mkdir -p target || exit 2
-rt "${words[@]}" 2>&1 | tee "$log" | show_progress
+"${what[@]}" 2>&1 | tee "$log" | show_progress
 status=${PIPESTATUS[0]}
 if [ "$status" -ne 0 ]; then
     show_errors
-    say "rt ${words[*]} failed; $log has all that it said"
+    say "failed; $log has all that rt said"
     exit "$status"
 fi
-
-# rt counts the crates that it checks. For the archive it does not, and it does not name the last crate, adtg_c itself.
-if [ "${words[0]}" = staticlib ]; then
-    proved=$(grep -cE '^rt: [A-Za-z0-9_]+ proved \(' "$log")
-    echo "proved $(in_words $((proved + 1))), wrote target/staticlib/libadtg_c.a"
-else
-    proved=$(sed -n 's/^rt: ok, \([0-9]*\) crates proved.*/\1/p' "$log")
-    [ -n "$proved" ] || { say "rt did not say how many crates it proved; $log has all that it said"; exit 1; }
-    echo "proved $(in_words "$proved")"
-fi
+echo "proved $(in_words "$total")$wrote"

@@ -1,5 +1,5 @@
 //! The numbers of a plan, as `adtg.h` lays them out, and what is found through any such numbers,
-//! whether a call made them or not. The papers have no such plans: that part goes by `plannedRow`
+//! whether a call made them or not. The papers have no such plans: that part goes by `planned_row`
 //! of `crates/jump/specs/Jumps.antt`.
 
 use super::column::{kind_of, Column, Kind};
