@@ -37,7 +37,7 @@
  * and memset are bound only when they are first called, that first call takes about 3 KB more.
  *     adtg_list_section: at most 96 KB
  *     adtg_check_section: at most 31 KB
- *     adtg_feed: at most 35 KB
+ *     adtg_feed: at most 32 KB
  *     every other call: at most 11 KB
  */
 #ifndef ADTG_H

@@ -65,7 +65,7 @@ impl Reader {
     ///
     /// All fragments together may have [`MAX_INPUT`](crate::MAX_INPUT) bytes. With more the error is
     /// of the kind `TooLarge`, unless the bytes up to there or the schema file have another error.
-    /// The call takes up to 35 KB of stack.
+    /// The call takes up to 32 KB of stack.
     pub fn feed(&mut self, file: &[u8], fragment: &[u8]) -> Result<Progress, Error> {
         raw::feed(file, self, fragment).result()
     }
