@@ -39,7 +39,7 @@ use Rattle.demands.specs.WriterFaults.{WriteFaults}
 use Rattle.demands.specs.PlanFaults.{PlanFault, differs, PlanOpenFaults, PlannedFaults, PlannedRowFaults, BatchFault, found_spans}
 use Rattle.demands.specs.PageFaults.{PageFaults}
 use Rattle.demands.specs.Calls.{WithFile, InFile, InSchema}
-use Rattle.demands.proofs.Exactly.{refuses, refuses_within, exactly_alike, exactly_within, then-grouped, then-alike, exactly_sized, never_then, never_of, never_missing, never_room}
+use Rattle.demands.proofs.Exactly.{refuses, refuses_within, exactly_alike, exactly_within, then_grouped, then_alike, exactly_sized, never_then, never_of, never_missing, never_room}
 use Rattle.demands.proofs.FileExactly.{size_within, sizes_none, sizes_one, sizes_more, sizes_rest, exactly_in_schema, exactly_in_schema_told, counts_exactly, column_count_exactly, column_exactly, child_exactly, numbers_exactly, schema_written_exactly, file_never_size, never_child, never_schema_written}
 use Rattle.demands.proofs.SectionExactly.{checked_exactly, listed_exactly, never_checked, never_listed}
 use Rattle.demands.proofs.HeadExactly.{header_exactly, options_exactly, header_written_exactly, options_written_exactly, never_header, never_options, never_header_written, never_options_written}
@@ -146,7 +146,7 @@ module _ (file : Bytes) (number : ℕ) where
       Refuses answer (lent input.Schema file ∷ []) (InSchema file number (Of input.Plan (PlanFault p (plan_beside (plan_in file number)))))
   check_plan_refuses p answer h =
       refuses
-      (exactly_alike (exactly_alike (check_plan_exactly p (plan_in file number) answer h make_plan_refuses.exactly) then-grouped) (then-alike then-grouped))
+      (exactly_alike (exactly_alike (check_plan_exactly p (plan_in file number) answer h make_plan_refuses.exactly) then_grouped) (then_alike then_grouped))
       (never_in_schema (never_of (λ _ f. other f refl)))
     where
       other : {q : Plan} {code offset : ℕ} → PlanFault p q code offset → code ≡ 19 → ⊥

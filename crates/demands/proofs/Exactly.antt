@@ -82,8 +82,8 @@ pub exactly_alike : {A : Type 0} {P Q : Refusals} {r : Read A} → Exactly r P �
 exactly_alike h k code offset name = ((λ e. (k code offset name).0 ((h code offset name).0 e)), (λ q. (h code offset name).1 ((k code offset name).1 q)))
 
 -- checks in groups are checks one after the other
-pub then-grouped : {P Q R : Refusals} (code offset : ℕ) (name : Input) → ((P then Q) then R) code offset name ↔ (P then (Q then R)) code offset name
-then-grouped {P} {Q} {R} code offset name = ((λ h. there h), (λ h. back h))
+pub then_grouped : {P Q R : Refusals} (code offset : ℕ) (name : Input) → ((P then Q) then R) code offset name ↔ (P then (Q then R)) code offset name
+then_grouped {P} {Q} {R} code offset name = ((λ h. there h), (λ h. back h))
   where
     there : ((P then Q) then R) code offset name → (P then (Q then R)) code offset name
     there (first (first p)) = first p
@@ -102,10 +102,10 @@ then-grouped {P} {Q} {R} code offset name = ((λ h. there h), (λ h. back h))
     back (second s (second t r)) = second (λ c o i z. none s t z) r
 
 -- the later checks in other words
-pub then-alike :
+pub then_alike :
     {P Q R : Refusals} → ((code offset : ℕ) (name : Input) → Q code offset name ↔ R code offset name) → (code offset : ℕ) (name : Input) →
     (P then Q) code offset name ↔ (P then R) code offset name
-then-alike {P} {Q} {R} h code offset name = ((λ p. there p), (λ p. back p))
+then_alike {P} {Q} {R} h code offset name = ((λ p. there p), (λ p. back p))
   where
     there : {code offset : ℕ} {name : Input} → (P then Q) code offset name → (P then R) code offset name
     there (first p) = first p

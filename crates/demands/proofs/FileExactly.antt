@@ -37,7 +37,7 @@ use Rattle.tree.proofs.Laws.{file_over, file_within}
 use Rattle.grammar.proofs.RowErrors.{OfError, no_error, an_error, of_bind, of_check, of_other}
 use Rattle.adtg.specs.InSchema.{both, in_schema}
 use Rattle.demands.specs.Checks.{Refusals, Silent, Never, Nothing, ◌then◌, first, second, Exactly, Faults, Of, of, Lent, lent, lent_numbers, Sizes, over, within, Missing, NoRoom}
-use Rattle.demands.specs.FileFaults.{NumberFault, no_group, no_second, no_third, second_zero, third_zero, too_long, RangeFault, in-number, below, above, Part, a_schema, some_columns, a_column, SchemaFault, too_deep, in_count, too_many, in-columns, in-first, in_rest, in_code, unknown_type, in-flags, in-maximum, in-id, repeated, in-nested, FileFault, in-schema, bytes_after, schemas_in, columns_in, numbers_in, NoChild, no_child, WrittenFault, over_groups, as_read}
+use Rattle.demands.specs.FileFaults.{NumberFault, no_group, no_second, no_third, second_zero, third_zero, too_long, RangeFault, in_number, below, above, Part, a_schema, some_columns, a_column, SchemaFault, too_deep, in_count, too_many, in_columns, in_first, in_rest, in_code, unknown_type, in_flags, in_maximum, in_id, repeated, in_nested, FileFault, in-schema, bytes_after, schemas_in, columns_in, numbers_in, NoChild, no_child, WrittenFault, over_groups, as_read}
 use Rattle.demands.proofs.Exactly.{exactly_of, exactly_fitting, exactly_size_of, never_missing, never_room, moved_error, ok_silent, exactly_then, exactly_last, exactly_alike, single_fault, exactly_about, about_last, exactly_missing, exactly_room, exactly_size, exactly_sized, never_then, never_of}
 
 -- errors of either of two readers
@@ -96,13 +96,13 @@ module _ (low high : ℕ) (s : State) where
   range_faults : OfError (RangeFault low high s) (read_range low high s)
   unfolding read_range
   range_faults =
-      of_bind _ _ (of_other (λ _ _ h. in-number h) (read_faults s))
+      of_bind _ _ (of_other (λ _ _ h. in_number h) (read_faults s))
       (λ n e. of_bind _ _ (of_check (leb low n.value) 6 s.at (λ t. below e (leb-false _ _ t)))
       (λ _ _. of_bind _ _ (of_check (leb n.value high) 6 s.at (λ t. above e (leb-false _ _ t))) (λ _ _. no_error)))
 
   range_refused : {code offset : ℕ} → RangeFault low high s code offset → read_range low high s ≡ bad code offset input.Single
   unfolding read_range check
-  range_refused (in-number h) = rw (read_refused s h)
+  range_refused (in_number h) = rw (read_refused s h)
   range_refused (below {n} e l) = rw (e, lt-leb low n.value l)
   range_refused (above {n} e l) = rw (e, lt-leb n.value high l) (go (leb low n.value))
     where
@@ -120,22 +120,22 @@ module _ (d : ℕ) (nests : (s : State) → OfError (SchemaFault (a_schema d) s)
       (s : State) (n : Got ℕ) → read_number s ≡ ok n → variable_kind (kind_of n.value) ≡ true → OfError (SchemaFault (a_column d) s) (read_variable n.value n.next)
   unfolding read_variable
   variable_faults s n e k =
-      of_bind _ _ (of_other (λ _ _ h. in-flags e (λ z. true≢false (sym k ∙ ap variable_kind z)) h) (range_faults 0 most_flags n.next))
-      (λ f e'. of_bind _ _ (of_other (λ _ _ h. in-maximum e k e' h) (range_faults 1 most_maximum f.next)) (λ _ _. no_error))
+      of_bind _ _ (of_other (λ _ _ h. in_flags e (λ z. true≢false (sym k ∙ ap variable_kind z)) h) (range_faults 0 most_flags n.next))
+      (λ f e'. of_bind _ _ (of_other (λ _ _ h. in_maximum e k e' h) (range_faults 1 most_maximum f.next)) (λ _ _. no_error))
 
   kind_faults :
       (k : Kind) (s : State) (n : Got ℕ) → read_number s ≡ ok n → kind_of n.value ≡ k →
       OfError (SchemaFault (a_column d) s) (read_kind (read_schema d) k n.value s.at n.next)
   unfolding read_kind read_fixed read_chapter
   kind_faults (Fixed w) s n e k =
-      of_bind _ _ (of_other (λ _ _ h. in-flags e (λ z. let y : ◌≡◌ {A = ℕ} 0 1 = cc in omega arith) h) (range_faults 0 most_flags n.next)) (λ _ _. no_error)
+      of_bind _ _ (of_other (λ _ _ h. in_flags e (λ z. let y : ◌≡◌ {A = ℕ} 0 1 = cc in omega arith) h) (range_faults 0 most_flags n.next)) (λ _ _. no_error)
   kind_faults Variable s n e k = variable_faults s n e (ap variable_kind k)
   kind_faults Wide s n e k = variable_faults s n e (ap variable_kind k)
   kind_faults Chapter s n e k =
-      of_bind _ _ (of_other (λ _ _ h. in-flags e (λ z. let y : ◌≡◌ {A = ℕ} 0 1 = cc in omega arith) h) (range_faults 0 most_flags n.next))
-      (λ f e'. of_bind _ _ (of_other (λ _ _ h. in-id e k e' h) (read_faults f.next))
+      of_bind _ _ (of_other (λ _ _ h. in_flags e (λ z. let y : ◌≡◌ {A = ℕ} 0 1 = cc in omega arith) h) (range_faults 0 most_flags n.next))
+      (λ f e'. of_bind _ _ (of_other (λ _ _ h. in_id e k e' h) (read_faults f.next))
       (λ i e''. of_bind _ _ (of_check (not (member i.value i.next.seen)) 8 f.next.at (λ t. repeated e k e' e'' (not-false _ t)))
-      (λ u t. of_bind _ _ (of_other (λ _ _ h. in-nested e k e' e'' (not-true _ (check_ok _ _ _ u t)) h) (nests (seeing i.value i.next)))
+      (λ u t. of_bind _ _ (of_other (λ _ _ h. in_nested e k e' e'' (not-true _ (check_ok _ _ _ u t)) h) (nests (seeing i.value i.next)))
       (λ _ _. no_error))))
   kind_faults Unknown s n e k = an_error (unknown_type e k)
 
@@ -147,7 +147,7 @@ module _ (d : ℕ) (nests : (s : State) → OfError (SchemaFault (a_schema d) s)
   unfolding read_columns
   columns_faults zero s = no_error
   columns_faults (suc n) s =
-      of_bind _ _ (of_other (λ _ _ h. in-first h) (column_faults s))
+      of_bind _ _ (of_other (λ _ _ h. in_first h) (column_faults s))
       (λ c e. of_bind _ _ (of_other (λ _ _ h. in_rest e h) (columns_faults n c.next)) (λ _ _. no_error))
 
 schema_faults : (d : ℕ) (s : State) → OfError (SchemaFault (a_schema d) s) (read_schema d s)
@@ -156,7 +156,7 @@ schema_faults zero s = an_error too_deep
 schema_faults (suc d) s =
     of_bind _ _ (of_other (λ _ _ h. in_count h) (range_faults 1 most_columns s))
     (λ n e. of_bind _ _ (of_check (leb (n.next.total + n.value) most_file_columns) 7 s.at (λ t. too_many e (leb-false _ _ t)))
-    (λ u t. of_other (λ _ _ h. in-columns e (leb-true _ _ (check_ok _ _ _ u t)) h) (columns_faults d (schema_faults d) n.value (counting n.value n.next))))
+    (λ u t. of_other (λ _ _ h. in_columns e (leb-true _ _ (check_ok _ _ _ u t)) h) (columns_faults d (schema_faults d) n.value (counting n.value n.next))))
 
 -- And each fault is the error.
 
@@ -200,16 +200,16 @@ unfolding read_schema read_columns read_column read_kind read_chapter check
 schema_refused too_deep = refl
 schema_refused {s = s} (in_count h) = rw (range_refused 1 most_columns s h)
 schema_refused (too_many {n} e h) = rw (e, lt-leb (n.next.total + n.value) most_file_columns h)
-schema_refused (in-columns {n} e l h) = rw (e, le-leb (n.next.total + n.value) most_file_columns l) (schema_refused h)
-schema_refused (in-first h) = rw (schema_refused h)
+schema_refused (in_columns {n} e l h) = rw (e, le-leb (n.next.total + n.value) most_file_columns l) (schema_refused h)
+schema_refused (in_first h) = rw (schema_refused h)
 schema_refused (in_rest e h) = rw (e, schema_refused h)
 schema_refused {s = s} (in_code h) = rw (read_refused s h)
 schema_refused (unknown_type e k) = rw (e, k)
-schema_refused {s = s} (in-flags {d} {n} e k h) = flags_refused (read_schema d) s n e k h
-schema_refused {s = s} (in-maximum {d} {n} {f} e k e' h) = maximum_refused (read_schema d) s n e f k e' h
-schema_refused {s = s} (in-id {f} e k e' h) = rw (e, k, e', read_refused f.next h)
+schema_refused {s = s} (in_flags {d} {n} e k h) = flags_refused (read_schema d) s n e k h
+schema_refused {s = s} (in_maximum {d} {n} {f} e k e' h) = maximum_refused (read_schema d) s n e f k e' h
+schema_refused {s = s} (in_id {f} e k e' h) = rw (e, k, e', read_refused f.next h)
 schema_refused (repeated e k e' e'' m) = rw (e, k, e', e'', m)
-schema_refused (in-nested e k e' e'' m h) = rw (e, k, e', e'', m, schema_refused h)
+schema_refused (in_nested e k e' e'' m h) = rw (e, k, e', e'', m, schema_refused h)
 
 pub exactly_schema : (d : ℕ) (s : State) → Exactly (read_schema d s) (Of input.Single (SchemaFault (a_schema d) s))
 exactly_schema d s = exactly_of (schema_faults d s) (λ _ _ h. schema_refused h)
@@ -289,8 +289,8 @@ module _ (b : Bytes) where
 
 -- The sizes of inputs.
 
-then-nothing : {P : Refusals} (code offset : ℕ) (name : Input) → P code offset name ↔ (P then Nothing) code offset name
-then-nothing {P} code offset name = ((λ p. first p), (λ q. by q))
+then_nothing : {P : Refusals} (code offset : ℕ) (name : Input) → P code offset name ↔ (P then Nothing) code offset name
+then_nothing {P} code offset name = ((λ p. first p), (λ q. by q))
   where
     by : {code offset : ℕ} {name : Input} → (P then Nothing) code offset name → P code offset name
     by (first p) = p
@@ -308,7 +308,7 @@ sizes_none code offset name = ((λ e. absurd (bad_ok (sym e))), (λ h. absurd (n
 pub sizes_more :
     {l : List Lent} {sizes : Read (Unit {0})} (name : Input) (s : Bytes) → Exactly sizes (Sizes l) → Exactly (both (about name (sized s)) sizes) (Sizes (lent name s ∷ l))
 sizes_more {l} {sizes} name s h =
-    exactly_alike (exactly_size name s sizes (λ _. exactly_alike h then-nothing)) (λ c o i. ((then-nothing c o i).1, (then-nothing c o i).0))
+    exactly_alike (exactly_size name s sizes (λ _. exactly_alike h then_nothing)) (λ c o i. ((then_nothing c o i).1, (then_nothing c o i).0))
 
 -- one
 pub sizes_one : (name : Input) (s : Bytes) → Exactly (about name (sized s)) (Sizes (lent name s ∷ []))

@@ -24,7 +24,7 @@ use Rattle.options.specs.Options.{token, guid, async_allowed, span_from, spans_a
 use Rattle.header.proofs.Laws.{fields_short}
 use Rattle.options.proofs.Laws.{length_string, length_options}
 use Rattle.demands.specs.Checks.{Refusals, Never, ◌then◌, Exactly, Faults, Of, of, lent, Sizes, Short, NoRoom, no_room}
-use Rattle.demands.specs.HeadFaults.{Agree, ConstantFault, ends, differs, ValueFault, below, above, SizeFault, wrong_size, HeaderFaults, size_field, string_end, first_end, second_end, third_end, NotFilled, in-first, in-second, in-third, in-async, OptionsFaults, HeaderWriteFaults, OptionsWriteFaults, RefusesAs}
+use Rattle.demands.specs.HeadFaults.{Agree, ConstantFault, ends, differs, ValueFault, below, above, SizeFault, wrong_size, HeaderFaults, size_field, string_end, first_end, second_end, third_end, NotFilled, in_first, in_second, in_third, in_async, OptionsFaults, HeaderWriteFaults, OptionsWriteFaults, RefusesAs}
 use Rattle.demands.proofs.Exactly.{never_short, never_room, exactly_fitting, exactly_then, exactly_last, exactly_alike, exactly_about, exactly_check, exactly_whole, exactly_size, exactly_sized, never_then, never_of}
 
 -- Checks of one input.
@@ -302,13 +302,13 @@ module _ (s : Bytes) (end : ℕ) (least : 28 ≤ end) (inside : end ≤ length s
       ∙ simp (eq-eqb (t + 2) end g, f)
 
   filled_check : Exactly (check (eqb (third_end s + 2) end) 4 1) (Of input.Single (SizeFault (NotFilled s end)))
-  filled_check = size_check (eqb (third_end s + 2) end) (λ t. in-async (eqb-false _ _ t)) wrong
+  filled_check = size_check (eqb (third_end s + 2) end) (λ t. in_async (eqb-false _ _ t)) wrong
     where
       wrong : NotFilled s end → eqb (third_end s + 2) end ≡ false
-      wrong (in-first h) = ne_eqb _ _ (λ (e : third_end s + 2 ≡ end). omega arith)
-      wrong (in-second h) = ne_eqb _ _ (λ (e : third_end s + 2 ≡ end). omega arith)
-      wrong (in-third h) = ne_eqb _ _ (λ (e : third_end s + 2 ≡ end). omega arith)
-      wrong (in-async h) = ne_eqb _ _ h
+      wrong (in_first h) = ne_eqb _ _ (λ (e : third_end s + 2 ≡ end). omega arith)
+      wrong (in_second h) = ne_eqb _ _ (λ (e : third_end s + 2 ≡ end). omega arith)
+      wrong (in_third h) = ne_eqb _ _ (λ (e : third_end s + 2 ≡ end). omega arith)
+      wrong (in_async h) = ne_eqb _ _ h
 
   rest_exactly :
       Exactly (options_rest s end)
@@ -440,8 +440,8 @@ same_check {A} name false code offset n h c o = ((λ (g, _). renamed input.Singl
     other e z = let x : code ≡ c = cc in n (x ∙ z)
 
 -- at last the writer checks the room, where the reader answers
-then-room : {A : Type 0} (piece : Bytes) (capacity : ℕ) (a : A) → RefusesAs (fitting piece capacity) (ok a)
-then-room piece capacity a code offset = ((λ g. absurd (there g)), (λ e. absurd (bad_ok (sym e))))
+then_room : {A : Type 0} (piece : Bytes) (capacity : ℕ) (a : A) → RefusesAs (fitting piece capacity) (ok a)
+then_room piece capacity a code offset = ((λ g. absurd (there g)), (λ e. absurd (bad_ok (sym e))))
   where
     sixteen : {c o : ℕ} {i : Input} → Of input.Output (NoRoom (length piece) capacity) c o i → c ≡ 16
     sixteen (of (no_room h)) = refl
@@ -475,7 +475,7 @@ header_writer_refuses_as_reader major minor order unicode capacity =
     rw (header_coded major minor order unicode)
     (same_check input.Order (eqb order 0) 3 7 (λ (e : ◌≡◌ {A = ℕ} 3 16). omega arith)
     (same_check input.Unicode (leb unicode 1) 3 8 (λ (e : ◌≡◌ {A = ℕ} 3 16). omega arith)
-    (then-room (header_bytes major minor order unicode) capacity (header_as major minor order unicode 9))))
+    (then_room (header_bytes major minor order unicode) capacity (header_as major minor order unicode 9))))
 
 -- the parts of coded options: an integer at its piece, and a string behind other bytes
 int_told : {s : Bytes} {a b : ℕ} (n : ℕ) → n < 65536 → Piece s a b (int_bytes 2 n) → int_at s a 2 ≡ n
@@ -557,7 +557,7 @@ pub options_writer_refuses_as_reader :
     RefusesAs (options_written first second third async capacity) (options_of (options_bytes first second third async))
 options_writer_refuses_as_reader first second third async capacity most small =
     rw (options_coded first second third async most small, written_within first second third async most small capacity)
-    (same_check input.Async (async_allowed async) 3 _ (λ (e : ◌≡◌ {A = ℕ} 3 16). omega arith) (then-room (options_bytes first second third async) capacity _))
+    (same_check input.Async (async_allowed async) 3 _ (λ (e : ◌≡◌ {A = ℕ} 3 16). omega arith) (then_room (options_bytes first second third async) capacity _))
 
 -- Where the size is over 65,535, and each string within the limit, it answers 4 at 1.
 pub options_writer_too_large :

@@ -41,7 +41,7 @@ use Rattle.adtg.specs.Rows.{look_up_in}
 use Rattle.demands.specs.Examples.{T, section_t}
 use Rattle.demands.specs.Sections.{Given, listing}
 use Rattle.demands.specs.Batches.{walked, Owner, Lies, Placed}
-use Rattle.demands.specs.Pages.{Looked, looked, looked_with, row_by_row, Pages, last_page, then-more, then-refused, SpanOf}
+use Rattle.demands.specs.Pages.{Looked, looked, looked_with, row_by_row, Pages, last_page, then_more, then_refused, SpanOf}
 use Rattle.demands.proofs.Plans.{plan_route_is_walk}
 use Rattle.demands.proofs.Sections.{listed_iff_split, split_listed, length_numbers}
 use Rattle.demands.proofs.Batches.{span_lies, span_placed, rows_shift, schemas_in_range, owner_row, row_spans}
@@ -213,10 +213,10 @@ module _ (look : Bytes → Read Answer) (s : Bytes) (table : List ℕ) (rows own
   pages_row_by_row {from} h (last_page {room = room} {xs = xs} m q) =
       let (u, f, g) = call_page from room h (page xs rows) q in
       (goes_from from room h).same ∙ rw (g, none_left look s table rows owner) (ap (λ (l : List Located). looked l (ok tt)) (append-nil xs))
-  pages_row_by_row {from} h (then-more {room = room} {next = next} {xs = xs} {ys = ys} {end = end} m q l more) =
+  pages_row_by_row {from} h (then_more {room = room} {next = next} {xs = xs} {ys = ys} {end = end} m q l more) =
       let (u, f, g) = call_page from room h (page xs next) q in
       (goes_from from room h).same ∙ rw (g, pages_row_by_row (omega arith) more) refl
-  pages_row_by_row {from} h (then-refused {room = room} m q) =
+  pages_row_by_row {from} h (then_refused {room = room} m q) =
       first_refuses look s (room_in room) (owned_in table rows from owner) (call_refused from room h q)
 
   -- A caller who goes on so comes to an end.
@@ -230,7 +230,7 @@ module _ (look : Bytes → Read Answer) (s : Bytes) (table : List ℕ) (rows own
       room_for = omega arith
 
       by : (from : ℕ) → from ≤ rows → ((next : ℕ) → from < next → next < rows → Ends next) → (r : Read Page) → call from room ≡ r → Ends from
-      by from h more (bad c p j) q = ([], bad c p j, then-refused m q)
+      by from h more (bad c p j) q = ([], bad c p j, then_refused m q)
       by from h more (ok p) q = on (ltb p.next rows) refl
         where
           inside : p.next ≤ rows
@@ -247,7 +247,7 @@ module _ (look : Bytes → Read Answer) (s : Bytes) (table : List ℕ) (rows own
           on true t =
               let l : p.next < rows = ltb-true _ _ t in
               let (ys, end, rest) = more p.next (moved_on l) l in
-              (p.found ++ ys, end, then-more m q l rest)
+              (p.found ++ ys, end, then_more m q l rest)
           on false t =
               let l : rows ≤ p.next = ltb-false _ _ t in
               let z : p.next ≡ rows = omega (arith, inside) in

@@ -35,7 +35,7 @@ use Rattle.grammar.specs.Grammar.{Row}
 use Rattle.batch.specs.Spans.{owner_of, start_in, is_row, Span, span_of, moved, span_in, spans_in, rows_of, spans_by}
 use Rattle.demands.specs.Checks.{Refusals, Silent, Never, ◌then◌, first, second, Exactly, Of, of, lent, Sizes, Missing, NoRoom, no_room}
 use Rattle.demands.specs.RowFaults.{FieldFault}
-use Rattle.demands.specs.PlanFaults.{PlanFault, differs, BitFault, this_bit, later_bit, PlanOpenFaults, StopFault, in-stop, behind_stop, HeldFault, held_variable, held_width, JumpFault, on_the_way, in-column, way_to, PlannedFaults, PlannedRowFaults, BatchFault, in_row, of_other, behind_row, found_spans}
+use Rattle.demands.specs.PlanFaults.{PlanFault, differs, BitFault, this_bit, later_bit, PlanOpenFaults, StopFault, in_stop, behind_stop, HeldFault, held_variable, held_width, JumpFault, on_the_way, in_column, way_to, PlannedFaults, PlannedRowFaults, BatchFault, in_row, of_other, behind_row, found_spans}
 use Rattle.demands.proofs.RowExactly.{Foreign, exactly_field, field_codes}
 use Rattle.demands.proofs.Exactly.{exactly_ways, same_error, moved_error, ok_silent, exactly_then, exactly_last, exactly_about, about_then, about_last, exactly_check, exactly_whole, exactly_missing, exactly_size, exactly_sized, single_fault, never_then, never_of, never_short, never_missing}
 
@@ -145,11 +145,11 @@ module _ (p : Plan) (row : Bytes) where
             let x : 14 ≡ code = cc in
             let y : w.at + t.gap ≡ offset = cc in
             let z : name ≡ input.Single = cc in
-            (rw (← x, ← y) (in-stop h m), z)
+            (rw (← x, ← y) (in_stop h m), z)
 
     leaps_back : (ts : List Stop) (w : Place) {code offset : ℕ} → StopFault row ts w code offset → leaps (bit_set row) row ts w ≡ bad code offset input.Single
     unfolding leaps
-    leaps_back ts w (in-stop {t = t} h m) = rw (passed_bad (bit_set row) row t w h (λ z. omega (arith, z, m)), m) refl
+    leaps_back ts w (in_stop {t = t} h m) = rw (passed_bad (bit_set row) row t w h (λ z. omega (arith, z, m)), m) refl
     leaps_back ts w (behind_stop {ts = us} {v = v} q f) = rw q (leaps_back us v f)
 
     -- the field of the column
@@ -191,7 +191,7 @@ module _ (p : Plan) (row : Bytes) where
             field_in (planned_word p k) row (w.at + planned_gap p k) ≡ r →
             ((r >>= λ f. ok (reached (place (w.at + planned_gap p k) w.prefixes) f)) >>= λ f. ok (field f)) ≡ bad c o i → JumpFault p row k c o × (i ≡ input.Single)
         by_field t w q (ok f) g e = absurd (bad_ok (sym e))
-        by_field t w q (bad d u j) g e = let (f, z) = held_there (planned_word p k) (w.at + planned_gap p k) (g ∙ same_error e) in (in-column t q f, z)
+        by_field t w q (bad d u j) g e = let (f, z) = held_there (planned_word p k) (w.at + planned_gap p k) (g ∙ same_error e) in (in_column t q f, z)
 
         by_way : {c o : ℕ} {i : Input} → present row (planned_mark p k) ≡ true → (r : Read Place) → leaps (bit_set row) row (way_to p k) (place 0 0) ≡ r →
             ((r >>= λ w. ok (place (w.at + planned_gap p k) w.prefixes))
@@ -208,7 +208,7 @@ module _ (p : Plan) (row : Bytes) where
 
         back : {c o : ℕ} → JumpFault p row k c o → pick (is_chapter (planned_column p k)) (ok chapter) (pick (present row (planned_mark p k)) way (ok null)) ≡ bad c o input.Single
         back (on_the_way t f) = rw (present_chapter row (planned_mark p k) t, t, leaps_back (way_to p k) (place 0 0) f) refl
-        back (in-column {w = w} t q f) = rw (present_chapter row (planned_mark p k) t, t, q, held_back (planned_word p k) (w.at + planned_gap p k) f) refl
+        back (in_column {w = w} t q f) = rw (present_chapter row (planned_mark p k) t, t, q, held_back (planned_word p k) (w.at + planned_gap p k) f) refl
 
     -- A look-up through any plan.
     pub planned_exactly : Exactly (planned_row p row k) (PlannedRowFaults p k row)
@@ -300,13 +300,13 @@ module _ {n : ℕ} (f : Foreign n) (p : Plan) (row : Bytes) where
 
   module _ (k : ℕ) where
     stop_codes : {ts : List Stop} {w : Place} {code offset : ℕ} → StopFault row ts w code offset → code ≡ n → ⊥
-    stop_codes (in-stop _ _) e = f.no_length (sym e)
+    stop_codes (in_stop _ _) e = f.no_length (sym e)
     stop_codes (behind_stop _ h) e = stop_codes h e
 
     jump_codes : {code offset : ℕ} → JumpFault p row k code offset → code ≡ n → ⊥
     jump_codes (on_the_way _ h) e = stop_codes h e
-    jump_codes (in-column _ _ (held_variable _ h)) e = field_codes (rw e at h) f.no_end f.no_length
-    jump_codes (in-column _ _ (held_width _ _)) e = f.no_end (sym e)
+    jump_codes (in_column _ _ (held_variable _ h)) e = field_codes (rw e at h) f.no_end f.no_length
+    jump_codes (in_column _ _ (held_width _ _)) e = f.no_end (sym e)
 
     pub never_planned : (n ≡ 18 → ⊥) → Never n (PlannedFaults p row k)
     never_planned m = never_then (never_missing m) (never_then never_planned_open (never_of (λ _ h. jump_codes h refl)))

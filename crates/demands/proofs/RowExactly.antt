@@ -34,7 +34,7 @@ use Rattle.walk.proofs.UpdateFound.{update_end_told, field_there, examined_looks
 use Rattle.encode.proofs.Walks.{clear_at}
 use Rattle.grammar.proofs.RowErrors.{OfError, no_error, an_error, of_bind, of_check, of_other, of_opened, of_row, of_update}
 use Rattle.demands.specs.Checks.{Never, ◌then◌, Where, Exactly, Of, lent, Sizes, Short, short, Missing}
-use Rattle.demands.specs.RowFaults.{FirstBroken, this, later, MapFault, broken_by, LengthFault, too_long, too_wide, odd, FieldFault, in-prefix, length_rule, in_bytes, in-width, FieldsFault, in_field, behind_field, no_field, OpenFaults, RowFaults, walked_to, LookUpFaults, UpdateOpenFaults, UpdateFaults, LookUpdateFaults, CurrentFaults}
+use Rattle.demands.specs.RowFaults.{FirstBroken, this, later, MapFault, broken_by, LengthFault, too_long, too_wide, odd, FieldFault, in_prefix, length_rule, in_bytes, in_width, FieldsFault, in_field, behind_field, no_field, OpenFaults, RowFaults, walked_to, LookUpFaults, UpdateOpenFaults, UpdateFaults, LookUpdateFaults, CurrentFaults}
 use Rattle.demands.proofs.Exactly.{exactly_of, of_exactly, alone, of_first, exactly_before, exactly_answered, exactly_where, exactly_where_not, short_codes, missing_codes, never_where, exactly_then, exactly_last, exactly_about, about_then, about_last, exactly_whole, exactly_missing, exactly_size, exactly_sized, never_then, never_of}
 
 -- A length: its error is 14 exactly where it breaks a rule, else 0.
@@ -75,7 +75,7 @@ module _ (c : Column) (n : ℕ) where
 
 module _ (c : Column) (row : Bytes) (at : ℕ) where
   field_refused : (code offset : ℕ) → FieldFault c row at code offset → field_at c row at ≡ bad code offset input.Single
-  field_refused code offset (in-prefix v h) = field_variable c row at v ∙ variable_short c row at h
+  field_refused code offset (in_prefix v h) = field_variable c row at v ∙ variable_short c row at h
   field_refused code offset (length_rule v l f) =
       let n : ℕ = int_at row at (prefix_size c) in
       let e : length_error c n ≡ 14 = length_fault c n f in
@@ -85,7 +85,7 @@ module _ (c : Column) (row : Bytes) (at : ℕ) where
       let n : ℕ = int_at row at (prefix_size c) in
       field_variable c row at v ∙ variable_bytes c row at n (int_fits row at (prefix_size c) l) (length_faultless c n f)
       ∙ bytes_short row (at + prefix_size c) n 1 h
-  field_refused code offset (in-width v h) = field_fixed c row at v ∙ bytes_short row at (width c) 0 h
+  field_refused code offset (in_width v h) = field_fixed c row at v ∙ bytes_short row at (width c) 0 h
 
   -- bytes that are there or not
   of_bytes : (from n prefixes : ℕ) → (length row < from + n → FieldFault c row at 1 (length row)) → OfError (FieldFault c row at) (bytes_at row from n prefixes)
@@ -110,14 +110,14 @@ module _ (c : Column) (row : Bytes) (at : ℕ) where
 
       go : (t : Bool) → leb (at + prefix_size c) (length row) ≡ t → OfError (FieldFault c row at) (variable_at c row at)
       go true t = inside (leb-true _ _ t) (length_either c _)
-      go false t = let h = leb-false _ _ t in rw (variable_short c row at h) (an_error (in-prefix v h))
+      go false t = let h = leb-false _ _ t in rw (variable_short c row at h) (an_error (in_prefix v h))
 
   of_field : OfError (FieldFault c row at) (field_at c row at)
   of_field = go (is_variable c) refl
     where
       go : (t : Bool) → is_variable c ≡ t → OfError (FieldFault c row at) (field_at c row at)
       go true v = rw (field_variable c row at v) (of_variable v)
-      go false v = rw (field_fixed c row at v) (of_bytes at (width c) 0 (in-width v))
+      go false v = rw (field_fixed c row at v) (of_bytes at (width c) 0 (in_width v))
 
   pub exactly_field : Exactly (field_at c row at) (Of input.Single (FieldFault c row at))
   exactly_field = exactly_of of_field field_refused
@@ -386,10 +386,10 @@ module _ (cs : List Column) (row update : Bytes) (k : ℕ) where
 -- Codes that row data never give.
 
 pub field_codes : {c : Column} {row : Bytes} {at code offset : ℕ} → FieldFault c row at code offset → (code ≡ 1 → ⊥) → (code ≡ 14 → ⊥) → ⊥
-field_codes (in-prefix _ _) a b = a refl
+field_codes (in_prefix _ _) a b = a refl
 field_codes (length_rule _ _ _) a b = b refl
 field_codes (in_bytes _ _ _ _) a b = a refl
-field_codes (in-width _ _) a b = a refl
+field_codes (in_width _ _) a b = a refl
 
 pub fields_codes :
     {has : Mark → Bool} {row : Bytes} {ms : List Mark} {at code offset : ℕ} → FieldsFault has row ms at code offset → (code ≡ 1 → ⊥) → (code ≡ 14 → ⊥) → ⊥

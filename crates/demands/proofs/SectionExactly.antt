@@ -23,7 +23,7 @@ use Rattle.grammar.proofs.RowErrors.{OfError, no_error, an_error, of_bind, of_ch
 use Rattle.section.specs.Table.{room_for, fitting, rows_fitting, rows_checked, rows_listed}
 use Rattle.demands.specs.Checks.{Refusals, Never, ◌then◌, Exactly, Of, Lent, lent, Sizes, within, NoRoom}
 use Rattle.demands.specs.FileFaults.{schemas_in}
-use Rattle.demands.specs.SectionFaults.{NoToken, HasId, of_child, of_change, of_delete, a_change, a_delete, SectionFault, no_token, unknown_token_lem, bytes_after, in-id, unknown_id, alone, in-parent, in-child, in-change, behind_parent, behind_child, behind_change, behind_delete, rows_in, CheckFaults, ListFaults}
+use Rattle.demands.specs.SectionFaults.{NoToken, HasId, of_child, of_change, of_delete, a_change, a_delete, SectionFault, no_token, unknown_token_lem, bytes_after, in_id, unknown_id, alone, in_parent, in_child, in_change, behind_parent, behind_child, behind_change, behind_delete, rows_in, CheckFaults, ListFaults}
 use Rattle.demands.proofs.Exactly.{exactly_of, never_room, exactly_then, exactly_last, exactly_about, exactly_room, never_then, never_of}
 use Rattle.demands.proofs.RowExactly.{exactly_row_end_alone, exactly_update_end_alone, foreign, never_row, never_update}
 use Rattle.demands.proofs.FileExactly.{sizes_one, exactly_front, file_never_room, file_never_size}
@@ -101,14 +101,14 @@ module _ (S : List Schema) (s : Bytes) where
         OfError (SectionFault S s before at) (whole s (at + 1) 4 >>= f)
     of_id f t k =
         let z : at + 5 ≡ at + 1 + 4 = omega arith in
-        of_whole s (at + 1) 4 f (λ h. in-id inside t (omega arith)) (λ h. rw z at (k (omega arith)))
+        of_whole s (at + 1) 4 f (λ h. in_id inside t (omega arith)) (λ h. rw z at (k (omega arith)))
 
     of_element : (k : Token) → token_of (get_or s at 0) ≡ k → Says k (get_or s at 0) → OfError (SectionFault S s before at) (element S s next before at k)
     unfolding element
     of_element done_token _ t =
         of_bind _ _ (of_check (eqb (length s) (at + 1)) 15 _ (λ e. bytes_after t (let z : (length s ≡ at + 1 → ⊥) = eqb-false _ _ e in omega arith))) (λ _ _. no_error)
     of_element parent_token _ t =
-        of_bind _ _ (of_exactly (exactly_row_end_alone (columns_at S 0) s (at + 1)) (of_row s (columns_at S 0) (at + 1)) (λ _ _ h. in-parent inside t h))
+        of_bind _ _ (of_exactly (exactly_row_end_alone (columns_at S 0) s (at + 1)) (of_row s (columns_at S 0) (at + 1)) (λ _ _ h. in_parent inside t h))
         (λ e r.
         let (l, i) = row_ends (columns_at S 0) s (at + 1) e r in
         of_bind _ _ (of_other (λ _ _ h. behind_parent inside t r h) (ih other e (known_other S) (omega arith) i)) (λ _ _. no_error))
@@ -118,7 +118,7 @@ module _ (S : List Schema) (s : Bytes) where
         of_bind _ _ (of_known at (child_number S (id_at s at)) (λ h. unknown_id t w h))
         (λ k q.
         let c : child_number S (id_at s at) ≡ some k = known_ok at _ k q in
-        of_bind _ _ (of_exactly (exactly_row_end_alone (columns_at S k) s (at + 5)) (of_row s (columns_at S k) (at + 5)) (λ _ _ h. in-child t w c h))
+        of_bind _ _ (of_exactly (exactly_row_end_alone (columns_at S k) s (at + 5)) (of_row s (columns_at S k) (at + 5)) (λ _ _ h. in_child t w c h))
         (λ e r.
         let (l, i) = row_ends (columns_at S k) s (at + 5) e r in
         of_bind _ _ (of_other (λ _ _ h. behind_child t w c r h) (ih _ e (known_after S _ k c) (omega arith) i)) (λ _ _. no_error))))
@@ -132,7 +132,7 @@ module _ (S : List Schema) (s : Bytes) where
         (λ k q.
         let c : child_number S (id_at s at) ≡ some k = known_ok at _ k q in
         rw b
-        (of_bind _ _ (of_exactly (exactly_update_end_alone (columns_at S k) s (at + 5)) (of_update s (columns_at S k) (at + 5)) (λ _ _ h. in-change t w c h))
+        (of_bind _ _ (of_exactly (exactly_update_end_alone (columns_at S k) s (at + 5)) (of_update s (columns_at S k) (at + 5)) (λ _ _ h. in_change t w c h))
         (λ e r.
         let (l, i) = update_ends (columns_at S k) s (at + 5) e r in
         of_bind _ _ (of_other (λ _ _ h. behind_change t w c r h) (ih other e (known_other S) (omega arith) i)) (λ _ _. no_error))))))
@@ -175,17 +175,17 @@ module _ (S : List Schema) (s : Bytes) where
   told {at = at} (no_token h) (suc fuel) l f = rw (whole_short s at 1 (omega arith))
   told {before} {at} (unknown_token_lem i n) fuel l f = scan_token fuel before at (get_or s at 0) f i refl ∙ rw (token_by_none (get_or s at 0) n)
   told {before} {at} (bytes_after t h) fuel l f = scan_token fuel before at 0x0F f (omega arith) t ∙ rw (ne_eqb (length s) (at + 1) (λ e. omega arith))
-  told {before} {at} (in-id i (of_child t) h) fuel l f = scan_token fuel before at 0x87 f i t ∙ rw (whole_short s (at + 1) 4 (omega arith))
-  told {before} {at} (in-id i (of_change t) h) fuel l f = scan_token fuel before at 0x8A f i t ∙ rw (whole_short s (at + 1) 4 (omega arith))
-  told {before} {at} (in-id i (of_delete t) h) fuel l f = scan_token fuel before at 0x8C f i t ∙ rw (whole_short s (at + 1) 4 (omega arith))
+  told {before} {at} (in_id i (of_child t) h) fuel l f = scan_token fuel before at 0x87 f i t ∙ rw (whole_short s (at + 1) 4 (omega arith))
+  told {before} {at} (in_id i (of_change t) h) fuel l f = scan_token fuel before at 0x8A f i t ∙ rw (whole_short s (at + 1) 4 (omega arith))
+  told {before} {at} (in_id i (of_delete t) h) fuel l f = scan_token fuel before at 0x8C f i t ∙ rw (whole_short s (at + 1) 4 (omega arith))
   told {before} {at} (unknown_id t w n) fuel l f = scan_token fuel before at 0x87 f (omega arith) t ∙ rw (id_whole at w, n)
   told {before} {at} (alone (a_change t) w n) fuel l f = scan_token fuel before at 0x8A f (omega arith) t ∙ rw (id_whole at w, not_after before (id_at s at) n)
   told {before} {at} (alone (a_delete t) w n) fuel l f = scan_token fuel before at 0x8C f (omega arith) t ∙ rw (id_whole at w, not_after before (id_at s at) n)
-  told {before} {at} (in-parent {code = c} {offset = o} i t h) fuel l f =
+  told {before} {at} (in_parent {code = c} {offset = o} i t h) fuel l f =
       scan_token fuel before at 0x07 f i t ∙ rw ((exactly_row_end_alone (columns_at S 0) s (at + 1) c o input.Single).1 h)
-  told {before} {at} (in-child {k = k} {code = c} {offset = o} t w q h) fuel l f =
+  told {before} {at} (in_child {k = k} {code = c} {offset = o} t w q h) fuel l f =
       scan_token fuel before at 0x87 f (omega arith) t ∙ rw (id_whole at w, q, (exactly_row_end_alone (columns_at S k) s (at + 5) c o input.Single).1 h)
-  told {before} {at} (in-change {k = k} {code = c} {offset = o} t w q h) fuel l f =
+  told {before} {at} (in_change {k = k} {code = c} {offset = o} t w q h) fuel l f =
       scan_token fuel before at 0x8A f (omega arith) t
       ∙ rw (id_whole at w, eq-eqb (id_at s at) (id_at s at) refl, q, (exactly_update_end_alone (columns_at S k) s (at + 5) c o input.Single).1 h)
   told {before} {at} (behind_parent {e = e} i t r h) fuel l f =
@@ -244,12 +244,12 @@ section_codes : {S : List Schema} {s : Bytes} {before : Before} {at n offset : �
 section_codes h (no_token _) = omega arith
 section_codes h (unknown_token_lem _ _) = omega arith
 section_codes h (bytes_after _ _) = omega arith
-section_codes h (in-id _ _ _) = omega arith
+section_codes h (in_id _ _ _) = omega arith
 section_codes h (unknown_id _ _ _) = omega arith
 section_codes h (alone _ _ _) = omega arith
-section_codes h (in-parent _ _ p) = never_row (foreign (omega arith)) _ _ _ _ _ _ p
-section_codes h (in-child _ _ _ p) = never_row (foreign (omega arith)) _ _ _ _ _ _ p
-section_codes h (in-change _ _ _ p) = never_update (foreign (omega arith)) _ _ _ _ _ _ p
+section_codes h (in_parent _ _ p) = never_row (foreign (omega arith)) _ _ _ _ _ _ p
+section_codes h (in_child _ _ _ p) = never_row (foreign (omega arith)) _ _ _ _ _ _ p
+section_codes h (in_change _ _ _ p) = never_update (foreign (omega arith)) _ _ _ _ _ _ p
 section_codes h (behind_parent _ _ _ f) = section_codes h f
 section_codes h (behind_child _ _ _ _ f) = section_codes h f
 section_codes h (behind_change _ _ _ _ f) = section_codes h f

@@ -26,7 +26,7 @@ pub data NumberFault : (left : Bytes) → (at code offset : ℕ) → Type 0 wher
 
 -- A number, then its range (6).
 pub data RangeFault (low high : ℕ) (s : State) : (code offset : ℕ) → Type 0 where
-  in-number : {code offset : ℕ} → NumberFault s.left s.at code offset → RangeFault low high s code offset
+  in_number : {code offset : ℕ} → NumberFault s.left s.at code offset → RangeFault low high s code offset
   below : {n : Got ℕ} → read_number s ≡ ok n → n.value < low → RangeFault low high s 6 s.at
   above : {n : Got ℕ} → read_number s ≡ ok n → high < n.value → RangeFault low high s 6 s.at
 
@@ -44,29 +44,29 @@ pub data SchemaFault : Part → State → (code offset : ℕ) → Type 0 where
   -- 7: column 257 by the counts added up, at the count
   too_many : {d : ℕ} {s : State} {n : Got ℕ} → read_range 1 most_columns s ≡ ok n → most_file_columns < n.next.total + n.value → SchemaFault (a_schema (suc d)) s 7 s.at
   -- and its columns
-  in-columns : {d code offset : ℕ} {s : State} {n : Got ℕ} → read_range 1 most_columns s ≡ ok n → n.next.total + n.value ≤ most_file_columns →
+  in_columns : {d code offset : ℕ} {s : State} {n : Got ℕ} → read_range 1 most_columns s ≡ ok n → n.next.total + n.value ≤ most_file_columns →
       SchemaFault (some_columns d n.value) (counting n.value n.next) code offset → SchemaFault (a_schema (suc d)) s code offset
   -- columns one after the other
-  in-first : {d n code offset : ℕ} {s : State} → SchemaFault (a_column d) s code offset → SchemaFault (some_columns d (suc n)) s code offset
+  in_first : {d n code offset : ℕ} {s : State} → SchemaFault (a_column d) s code offset → SchemaFault (some_columns d (suc n)) s code offset
   in_rest : {d n code offset : ℕ} {s : State} {c : Got Node} → read_column (read_schema d) s ≡ ok c → SchemaFault (some_columns d n) c.next code offset →
       SchemaFault (some_columns d (suc n)) s code offset
   -- a column: its type code
   in_code : {d code offset : ℕ} {s : State} → NumberFault s.left s.at code offset → SchemaFault (a_column d) s code offset
   unknown_type : {d : ℕ} {s : State} {n : Got ℕ} → read_number s ≡ ok n → kind_of n.value ≡ Unknown → SchemaFault (a_column d) s 6 s.at
   -- its flags
-  in-flags : {d code offset : ℕ} {s : State} {n : Got ℕ} → read_number s ≡ ok n → (kind_of n.value ≡ Unknown → ⊥) → RangeFault 0 most_flags n.next code offset →
+  in_flags : {d code offset : ℕ} {s : State} {n : Got ℕ} → read_number s ≡ ok n → (kind_of n.value ≡ Unknown → ⊥) → RangeFault 0 most_flags n.next code offset →
       SchemaFault (a_column d) s code offset
   -- a maximum, where its type has one
-  in-maximum : {d code offset : ℕ} {s : State} {n f : Got ℕ} → read_number s ≡ ok n → variable_kind (kind_of n.value) ≡ true → read_range 0 most_flags n.next ≡ ok f →
+  in_maximum : {d code offset : ℕ} {s : State} {n f : Got ℕ} → read_number s ≡ ok n → variable_kind (kind_of n.value) ≡ true → read_range 0 most_flags n.next ≡ ok f →
       RangeFault 1 most_maximum f.next code offset → SchemaFault (a_column d) s code offset
   -- a chapter's id
-  in-id : {d code offset : ℕ} {s : State} {n f : Got ℕ} → read_number s ≡ ok n → kind_of n.value ≡ Chapter → read_range 0 most_flags n.next ≡ ok f →
+  in_id : {d code offset : ℕ} {s : State} {n f : Got ℕ} → read_number s ≡ ok n → kind_of n.value ≡ Chapter → read_range 0 most_flags n.next ≡ ok f →
       NumberFault f.next.left f.next.at code offset → SchemaFault (a_column d) s code offset
   -- 8: it is repeated
   repeated : {d : ℕ} {s : State} {n f i : Got ℕ} → read_number s ≡ ok n → kind_of n.value ≡ Chapter → read_range 0 most_flags n.next ≡ ok f →
       read_number f.next ≡ ok i → member i.value i.next.seen ≡ true → SchemaFault (a_column d) s 8 f.next.at
   -- and its schema
-  in-nested : {d code offset : ℕ} {s : State} {n f i : Got ℕ} → read_number s ≡ ok n → kind_of n.value ≡ Chapter → read_range 0 most_flags n.next ≡ ok f →
+  in_nested : {d code offset : ℕ} {s : State} {n f i : Got ℕ} → read_number s ≡ ok n → kind_of n.value ≡ Chapter → read_range 0 most_flags n.next ≡ ok f →
       read_number f.next ≡ ok i → member i.value i.next.seen ≡ false → SchemaFault (a_schema d) (seeing i.value i.next) code offset →
       SchemaFault (a_column d) s code offset
 

@@ -55,10 +55,10 @@ third_end s = string_end s (second_end s)
 
 -- The fields do not fill options that end at `end`: a string goes past it, or the two bytes of the async option do not end there.
 pub data NotFilled (s : Bytes) (end : ℕ) : Type 0 where
-  in-first : end < first_end s → NotFilled s end
-  in-second : end < second_end s → NotFilled s end
-  in-third : end < third_end s → NotFilled s end
-  in-async : (third_end s + 2 ≡ end → ⊥) → NotFilled s end
+  in_first : end < first_end s → NotFilled s end
+  in_second : end < second_end s → NotFilled s end
+  in_third : end < third_end s → NotFilled s end
+  in_async : (third_end s + 2 ≡ end → ⊥) → NotFilled s end
 
 -- Options, behind their size: token; size read; whole piece present; size under 25; GUID; strings and async option filling the size; async value, 1 to 3.
 abbrev pub OptionsFaults : Bytes → Refusals

@@ -28,9 +28,9 @@ row_by_row look s (o ∷ os) = looked_with o (span_in look s o.row.original) (ro
 -- each is lent, but at least that of one span: all that they find, and how they end.
 pub data Pages (call : (from room : ℕ) → Read Page) (rows : ℕ) : (from : ℕ) → List Located → (end : Read (Unit {0})) → Type 0 where
   last_page : {from room : ℕ} {xs : List Located} → 3 ≤ room → call from room ≡ ok (page xs rows) → Pages call rows from xs (ok tt)
-  then-more : {from room next : ℕ} {xs ys : List Located} {end : Read (Unit {0})} → 3 ≤ room → call from room ≡ ok (page xs next) → next < rows →
+  then_more : {from room next : ℕ} {xs ys : List Located} {end : Read (Unit {0})} → 3 ≤ room → call from room ≡ ok (page xs next) → next < rows →
       Pages call rows next ys end → Pages call rows from (xs ++ ys) end
-  then-refused : {from room code offset : ℕ} {name : Input} → 3 ≤ room → call from room ≡ bad code offset name → Pages call rows from [] (bad code offset name)
+  then_refused : {from room code offset : ℕ} {name : Input} → 3 ≤ room → call from room ≡ bad code offset name → Pages call rows from [] (bad code offset name)
 
 -- A span is that of a row of the owner: what the look-up answers on the part of the section from this row's start on.
 pub record SpanOf (look : Bytes → Read Answer) (s : Bytes) (table : List ℕ) (rows owner : ℕ) (x : Located) : Type 0 where

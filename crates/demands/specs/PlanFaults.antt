@@ -37,7 +37,7 @@ PlanOpenFaults p row = Of input.Row (Short row 0 (planned_map p)) then Of input.
 -- 14: the way over stops: of the first one that the row has with a length that is not allowed, at its prefix. What is missing is missed at the
 -- column's own field.
 pub data StopFault (row : Bytes) : List Stop → Place → (code offset : ℕ) → Type 0 where
-  in-stop : {t : Stop} {ts : List Stop} {w : Place} → there (bit_set row) t ≡ true → span_error t row (w.at + t.gap) ≡ 14 → StopFault row (t ∷ ts) w 14 (w.at + t.gap)
+  in_stop : {t : Stop} {ts : List Stop} {w : Place} → there (bit_set row) t ≡ true → span_error t row (w.at + t.gap) ≡ 14 → StopFault row (t ∷ ts) w 14 (w.at + t.gap)
   behind_stop : {t : Stop} {ts : List Stop} {w v : Place} {code offset : ℕ} → passed (bit_set row) row t w ≡ ok v → StopFault row ts v code offset →
       StopFault row (t ∷ ts) w code offset
 
@@ -53,7 +53,7 @@ pub data HeldFault (n : ℕ) (row : Bytes) (at : ℕ) : (code offset : ℕ) → 
 -- column k, where it is present: the way to it, then its field
 pub data JumpFault (p : Plan) (row : Bytes) (k : ℕ) : (code offset : ℕ) → Type 0 where
   on_the_way : {code offset : ℕ} → present row (planned_mark p k) ≡ true → StopFault row (way_to p k) (place 0 0) code offset → JumpFault p row k code offset
-  in-column : {code offset : ℕ} {w : Place} → present row (planned_mark p k) ≡ true → leaps (bit_set row) row (way_to p k) (place 0 0) ≡ ok w →
+  in_column : {code offset : ℕ} {w : Place} → present row (planned_mark p k) ≡ true → leaps (bit_set row) row (way_to p k) (place 0 0) ≡ ok w →
       HeldFault (planned_word p k) row (w.at + planned_gap p k) code offset → JumpFault p row k code offset
 
 -- A look-up through any plan, behind the row's size: the column number (18), the row opens (1, 12), and then the way to the column.

@@ -32,11 +32,11 @@ pub data LengthFault (c : Column) (n : ℕ) : Type 0 where
 
 -- The field of a column at `at`. 1: the row ends inside its prefix, inside its bytes; 14: its length, at the prefix.
 pub data FieldFault (c : Column) (row : Bytes) (at : ℕ) : (code offset : ℕ) → Type 0 where
-  in-prefix : is_variable c ≡ true → length row < at + prefix_size c → FieldFault c row at 1 (length row)
+  in_prefix : is_variable c ≡ true → length row < at + prefix_size c → FieldFault c row at 1 (length row)
   length_rule : is_variable c ≡ true → at + prefix_size c ≤ length row → LengthFault c (int_at row at (prefix_size c)) → FieldFault c row at 14 at
   in_bytes : is_variable c ≡ true → at + prefix_size c ≤ length row → (LengthFault c (int_at row at (prefix_size c)) → ⊥) →
       length row < at + prefix_size c + int_at row at (prefix_size c) → FieldFault c row at 1 (length row)
-  in-width : is_variable c ≡ false → length row < at + width c → FieldFault c row at 1 (length row)
+  in_width : is_variable c ≡ false → length row < at + width c → FieldFault c row at 1 (length row)
 
 -- Fields one after the other from `at` on, those of the columns that `has` a field.
 pub data FieldsFault (has : Mark → Bool) (row : Bytes) : List Mark → (at code offset : ℕ) → Type 0 where

@@ -42,17 +42,17 @@ pub data SectionFault (S : List Schema) (s : Bytes) : Before → (at code offset
   -- 15: bytes after the done token
   bytes_after : {before : Before} {at : ℕ} → get_or s at 0 ≡ 0x0F → at + 1 < length s → SectionFault S s before at 15 (at + 1)
   -- 1: the section ends inside a child id
-  in-id : {before : Before} {at : ℕ} → at < length s → HasId (get_or s at 0) → length s < at + 5 → SectionFault S s before at 1 (length s)
+  in_id : {before : Before} {at : ℕ} → at < length s → HasId (get_or s at 0) → length s < at + 5 → SectionFault S s before at 1 (length s)
   -- 10: 87 with an unknown id, at the token
   unknown_id : {before : Before} {at : ℕ} → get_or s at 0 ≡ 0x87 → at + 5 ≤ length s → child_number S (id_at s at) ≡ none → SectionFault S s before at 10 at
   -- 11: 8A or 8C without an 87 of the same id directly before, at the token
   alone : {before : Before} {at : ℕ} → Follows (get_or s at 0) → at + 5 ≤ length s → (before ≡ after (id_at s at) → ⊥) → SectionFault S s before at 11 at
   -- the data of an element
-  in-parent : {before : Before} {at code offset : ℕ} → at < length s → get_or s at 0 ≡ 0x07 → RowFaults input.Single (columns_at S 0) s (at + 1) code offset input.Single →
+  in_parent : {before : Before} {at code offset : ℕ} → at < length s → get_or s at 0 ≡ 0x07 → RowFaults input.Single (columns_at S 0) s (at + 1) code offset input.Single →
       SectionFault S s before at code offset
-  in-child : {before : Before} {at k code offset : ℕ} → get_or s at 0 ≡ 0x87 → at + 5 ≤ length s → child_number S (id_at s at) ≡ some k →
+  in_child : {before : Before} {at k code offset : ℕ} → get_or s at 0 ≡ 0x87 → at + 5 ≤ length s → child_number S (id_at s at) ≡ some k →
       RowFaults input.Single (columns_at S k) s (at + 5) code offset input.Single → SectionFault S s before at code offset
-  in-change : {at k code offset : ℕ} → get_or s at 0 ≡ 0x8A → at + 5 ≤ length s → child_number S (id_at s at) ≡ some k →
+  in_change : {at k code offset : ℕ} → get_or s at 0 ≡ 0x8A → at + 5 ≤ length s → child_number S (id_at s at) ≡ some k →
       UpdateFaults input.Single (columns_at S k) s (at + 5) code offset input.Single → SectionFault S s (after (id_at s at)) at code offset
   -- what follows an element that is whole
   behind_parent : {before : Before} {at e code offset : ℕ} → at < length s → get_or s at 0 ≡ 0x07 → row_end (columns_at S 0) s (at + 1) ≡ ok e → SectionFault S s other e code offset →

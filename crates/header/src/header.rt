@@ -1,4 +1,4 @@
-// The header of a tablegram (adtg_header): nine bytes.
+// The header of a tablegram (adtgHeader): nine bytes.
 ghost use Rattle.std.specs.Prelude.{◌≡◌, length};
 ghost use Rattle.wire.specs.Output.{Wrote};
 ghost use Rattle.header.specs.Header.{header_of, header_fields, header_written, told_header};

@@ -13,7 +13,7 @@ use Rattle.wire.specs.declared.error.Input.{Input}
 use Rattle.wire.specs.Read.{Bytes, Read, bad}
 use Rattle.grammar.specs.Grammar.{Row}
 use Rattle.listing.specs.Lines.{refusal_words, RefusalLine, Text, rows_text, refusal_text}
-use Rattle.listing.specs.Listing.{file_limit, listing, Refusal, sheet_over, rows_over, in-reading}
+use Rattle.listing.specs.Listing.{file_limit, listing, Refusal, sheet_over, rows_over, in_reading}
 use Rattle.listing.proofs.Laws.{sheet_large, rows_large, sizes_fit}
 
 module _ (sheet rows : Bytes) (numbers : ℕ) where
@@ -30,7 +30,7 @@ module _ (sheet rows : Bytes) (numbers : ℕ) where
 
       by_rows : length sheet ≤ file_limit → (t : Bool) → leb (length rows) file_limit ≡ t → listing sheet rows numbers ≡ bad code place name →
           Refusal sheet rows numbers code place name
-      by_rows f true t e = let h : length rows ≤ file_limit = leb-true _ _ t in in-reading f h (sym (sizes_fit sheet rows numbers f h) ∙ e)
+      by_rows f true t e = let h : length rows ≤ file_limit = leb-true _ _ t in in_reading f h (sym (sizes_fit sheet rows numbers f h) ∙ e)
       by_rows f false t e = let h : file_limit < length rows = leb-false _ _ t in moved (sym (rows_large sheet rows numbers f h) ∙ e) (rows_over f h)
 
       by_sheet : (t : Bool) → leb (length sheet) file_limit ≡ t → listing sheet rows numbers ≡ bad code place name → Refusal sheet rows numbers code place name
@@ -40,7 +40,7 @@ module _ (sheet rows : Bytes) (numbers : ℕ) where
       back : {c p : ℕ} {i : Input} → Refusal sheet rows numbers c p i → listing sheet rows numbers ≡ bad c p i
       back (sheet_over h) = sheet_large sheet rows numbers h
       back (rows_over f h) = rows_large sheet rows numbers f h
-      back (in-reading f h e) = sizes_fit sheet rows numbers f h ∙ e
+      back (in_reading f h e) = sizes_fit sheet rows numbers f h ∙ e
 
   -- Its text is one line alone: what is refused, the number and the place.
   pub refusal_printed : {text : Bytes} {code place : ℕ} {name : Input} → Text (listing sheet rows numbers) text → Refusal sheet rows numbers code place name →

@@ -22,5 +22,5 @@ listing sheet rows numbers = do
 pub data Refusal (sheet rows : Bytes) (numbers : ℕ) : (code place : ℕ) → Input → Type 0 where
   sheet_over : file_limit < length sheet → Refusal sheet rows numbers 19 0 input.Schema
   rows_over : length sheet ≤ file_limit → file_limit < length rows → Refusal sheet rows numbers 19 0 input.Section
-  in-reading : {code place : ℕ} {name : Input} → length sheet ≤ file_limit → length rows ≤ file_limit → rows_listed sheet rows numbers ≡ bad code place name →
+  in_reading : {code place : ℕ} {name : Input} → length sheet ≤ file_limit → length rows ≤ file_limit → rows_listed sheet rows numbers ≡ bad code place name →
       Refusal sheet rows numbers code place name

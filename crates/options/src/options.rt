@@ -1,4 +1,4 @@
-// The handler options of a tablegram (adtg_handler_options): a token, a size, a GUID, the update type, three strings and
+// The handler options of a tablegram (adtgHandlerOptions): a token, a size, a GUID, the update type, three strings and
 // the async option.
 ghost use Rattle.std.specs.Prelude.{◌≡◌, length};
 ghost use Rattle.wire.specs.Output.{Wrote, put};
