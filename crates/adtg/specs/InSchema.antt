@@ -1,14 +1,13 @@
 -- Promise: a question about the columns of one schema of a file, with other inputs beside it.
 -- Assumes nothing.
-use Rattle.std.specs.Prelude.{ℕ, ◌≡◌, List, map}
-use Rattle.wire.specs.Read.{Bytes, Read, ok, ◌>>=◌}
+use Rattle.std.specs.Prelude.{ℕ, ◌≡◌, List, map, Result, Ok, Err}
+use Rattle.wire.specs.declared.error.Error.{Error}
+use Rattle.wire.specs.Read.{Bytes, Read, ok, refused, ◌>>=◌}
 use Rattle.column.specs.declared.column.Column.{Column}
 use Rattle.column.specs.declared.columns.Columns.{Columns}
-use Rattle.column.specs.Layout.{layout}
-use Rattle.questions.specs.declared.file.ColumnsRead.{ColumnsRead}
+use Rattle.column.specs.Layout.{columns_in}
 use Rattle.tree.specs.Schemas.{as_column}
-use Rattle.questions.specs.declared.file.SlotsRead.{SlotsRead}
-use Rattle.questions.specs.Questions.{with_schema, told_found, told_slots, Few}
+use Rattle.questions.specs.Questions.{with_schema, told_slots, Few}
 
 -- one check after the other: the first error
 abbrev pub both : Read (Unit {0}) → Read (Unit {0}) → Read (Unit {0})
@@ -24,14 +23,14 @@ in_schema file sizes number ask = with_schema file sizes number (λ schemas colu
 -- Inner.
 
 -- the columns themselves
-unfoldable pub columns_beside : Bytes → (sizes : Read (Unit {0})) → ℕ → Read Columns
-columns_beside file sizes number = in_schema file sizes number (λ columns. ok (layout columns))
+abbrev pub listed : Bytes → (sizes : Read (Unit {0})) → ℕ → Read (List Column)
+listed file sizes number = in_schema file sizes number (λ columns. ok columns)
 
--- what was read says them
-pub record Beside (file : Bytes) (sizes : Read (Unit {0})) (number : ℕ) (r : ColumnsRead) : Type 0 where
-  pub answers : told_found r.found r.columns ≡ columns_beside file sizes number
+-- what was read says them: by value, or in slots
+abbrev pub told_columns : Result Columns Error → Read (List Column)
+told_columns (Ok columns) = ok (columns_in columns)
+told_columns (Err e) = refused e
 
--- the same in slots
-pub record SlotsBeside (file : Bytes) (sizes : Read (Unit {0})) (number : ℕ) (slots : List ℕ) (r : SlotsRead) : Type 0 where
-  pub answers : told_slots r slots ≡ in_schema file sizes number (λ columns. ok columns)
+pub record SlotsBeside (file : Bytes) (sizes : Read (Unit {0})) (number : ℕ) (slots : List ℕ) (r : Result ℕ Error) : Type 0 where
+  pub answers : told_slots r slots ≡ listed file sizes number
   pub few : Few r

@@ -3,15 +3,12 @@
 use Rattle.std.specs.Prelude.{ℕ, ◌≡◌, List, []}
 use Rattle.wire.specs.declared.error.Input.{Input}
 use Rattle.wire.specs.declared.error.Input.TheVariants as input
-use Rattle.wire.specs.Read.{Bytes, Read, ok, bad, refused}
+use Rattle.wire.specs.Read.{Bytes, Read, ok, bad}
 use Rattle.column.specs.declared.column.Column.{Column}
-use Rattle.questions.specs.declared.file.Found.{Found}
-use Rattle.questions.specs.declared.file.Found.TheVariants as found
 use Rattle.questions.specs.Questions.{alone}
 use Rattle.plan.specs.declared.plan.Plan.{Plan}
 use Rattle.plan.specs.Plans.{plan_of}
 use Rattle.adtg.specs.InSchema.{in_schema}
-use Rattle.adtg.specs.declared.plans.PlanRead.{PlanRead}
 
 -- the columns of a schema, no other input having a size
 unfoldable pub columns_of : (file : Bytes) (number : ℕ) → Read (List Column)
@@ -29,15 +26,6 @@ blank = plan_of []
 abbrev pub plan_beside : Read Plan → Plan
 plan_beside (ok plan) = plan
 plan_beside (bad code offset about) = blank
-
-abbrev pub told_plan : Found → Plan → Read Plan
-told_plan found.Yes plan = ok plan
-told_plan (found.Refused e) plan = refused e
-
--- what making a plan promises
-pub record Planned (file : Bytes) (number : ℕ) (r : PlanRead) : Type 0 where
-  pub answers : told_plan r.found r.plan ≡ plan_in file number
-  pub holds : r.plan ≡ plan_beside (plan_in file number)
 
 -- What comparing promises: the file's errors and the schema number's; then a plan is accepted if and only if it is the plan that the
 -- schema makes, and any other is refused with 17 at 0.

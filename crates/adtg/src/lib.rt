@@ -3,96 +3,70 @@
 #![tactic(auto)]
 
 ghost use Rattle.std.specs.Prelude.{◌≡◌};
-ghost use Rattle.wire.specs.Read.{about, sized, sized_by, told_match};
-ghost use Rattle.wire.specs.Integers.{told_int};
-ghost use Rattle.adtg.specs.InSchema.{both, Beside, SlotsBeside};
+ghost use Rattle.wire.specs.declared.error.Input.TheVariants as input;
+ghost use Rattle.wire.specs.Read.{about, sized, told};
+ghost use Rattle.adtg.specs.InSchema.{both, listed, told_columns, SlotsBeside};
 
 use column::columns::Columns;
-use questions::file::{ColumnsRead, Found, SlotsRead, columns_of, slots_of};
-use wire::LIMIT;
-use wire::bytes::Matched;
-use wire::error::{Error, ErrorKind, Input};
-use wire::integer::IntRead;
+use questions::file::{columns_of, slots_of};
+use wire::check_size;
+use wire::error::{Error, Input};
 
 pub mod plans;
 pub mod rows;
 pub mod updates;
 pub mod writers;
 
-// Whether an input of so many bytes may be read; an error names the input.
-fn check_size(size: usize, name: Input) -> Matched
-    ensures { told_match result ≡ about name (sized_by size) }
+// The size of the file, then what was found of the other inputs' sizes: the first error.
+#[tactic(auto, unfolding(wire::specs::Read::sized))]
+fn check_sizes(file: &[u8], sizes: Result<(), Error>) -> Result<(), Error>
+    ensures { told result ≡ both (about input.Schema (sized file.now)) (told sizes) }
 {
-    if size > LIMIT {
-        return Matched::Refused(Error::at_start(ErrorKind::TooLarge, name));
-    }
-    Matched::Same
-}
-
-// Two checks, one after the other: the first error.
-fn check_both(first: Matched, second: Matched) -> Matched
-    ensures { told_match result ≡ both (told_match first) (told_match second) }
-{
-    match first {
-        Matched::Refused(e) => Matched::Refused(e),
-        Matched::Same => second,
-    }
+    check_size(file.len(), Input::Schema).and(sizes)
 }
 
 // The columns of schema `number`: the file's size, then what was found of the other inputs' sizes, then the file.
-fn columns_beside(file: &[u8], number: usize, sizes: Matched) -> ColumnsRead
-    ensures { Beside file.now (told_match sizes) number result }
+#[tactic(auto, unfolding(wire::specs::Read::sized), using(crate::proofs::Laws::listed_large, crate::proofs::Laws::listed_sized, crate::proofs::Laws::laid_listed))]
+fn columns_beside(file: &[u8], number: usize, sizes: Result<(), Error>) -> Result<Columns, Error>
+    ensures { told_columns result ≡ listed file.now (told sizes) number }
 {
-    match check_both(check_size(file.len(), Input::Schema), sizes) {
-        Matched::Refused(e) => ColumnsRead {
-            found: Found::Refused(e),
-            columns: Columns {
-                count: 0,
-                codes: [0u8; 64],
-                flags: [0u8; 64],
-                maxima: [0u16; 64],
-            },
-        },
-        Matched::Same => columns_of(file, number),
-    }
+    check_sizes(file, sizes)?;
+    columns_of(file, number)
 }
 
 // The columns of schema `number`, beside one other input, whose errors have this name.
-fn columns_for(file: &[u8], number: usize, other: &[u8], name: Input) -> ColumnsRead
-    ensures { Beside file.now (about name (sized other.now)) number result }
+#[tactic(auto, unfolding(wire::specs::Read::sized))]
+fn columns_for(file: &[u8], number: usize, other: &[u8], name: Input) -> Result<Columns, Error>
+    ensures { told_columns result ≡ listed file.now (about name (sized other.now)) number }
 {
     columns_beside(file, number, check_size(other.len(), name))
 }
 
 // The columns of schema `number` into slots, checked in the same order.
-fn slots_beside(file: &[u8], number: usize, others: Matched, slots: &mut [u32; 64]) -> SlotsRead
-    ensures { SlotsBeside file.now (told_match others) number slots.new result }
+#[tactic(auto, unfolding(wire::specs::Read::sized), using(crate::proofs::Laws::listed_large, crate::proofs::Laws::listed_sized))]
+fn slots_beside(
+    file: &[u8],
+    number: usize,
+    sizes: Result<(), Error>,
+    slots: &mut [u32; 64],
+) -> Result<usize, Error>
+    ensures { SlotsBeside file.now (told sizes) number slots.new result }
 {
-    match check_both(check_size(file.len(), Input::Schema), others) {
-        Matched::Refused(e) => SlotsRead::Refused(e),
-        Matched::Same => slots_of(file, number, slots),
-    }
+    check_sizes(file, sizes)?;
+    slots_of(file, number, slots)
 }
 
 // The columns of schema `number` into slots, beside one other input, whose errors have this name.
+// Kept: by value and in slots the columns come of two calls of crate `questions`; a closure for the call is no plainer.
+#[tactic(auto, unfolding(wire::specs::Read::sized))]
 fn slots_for(
     file: &[u8],
     number: usize,
     other: &[u8],
     name: Input,
     slots: &mut [u32; 64],
-) -> SlotsRead
+) -> Result<usize, Error>
     ensures { SlotsBeside file.now (about name (sized other.now)) number slots.new result }
 {
     slots_beside(file, number, check_size(other.len(), name), slots)
-}
-
-// The same answer; an error names this input.
-fn about(read: IntRead, name: Input) -> IntRead
-    ensures { told_int result ≡ about name (told_int read) }
-{
-    match read {
-        IntRead::Int(n) => IntRead::Int(n),
-        IntRead::Refused(e) => IntRead::Refused(e.about(name)),
-    }
 }

@@ -4,11 +4,10 @@ ghost use Rattle.encode.specs.Writers.{WroteAt};
 ghost use Rattle.adtg.specs.Writers.{write_original_in, write_update_in};
 
 use crate::columns_for;
-use questions::file::{ColumnsRead, Found};
-use wire::error::Input;
-use wire::output::Written;
+use wire::error::{Error, Input};
 
 // Writes an original row into `out` from `place` on, one entry a column.
+#[tactic(auto, using(crate::proofs::Laws::original_listed))]
 pub fn write_original(
     file: &[u8],
     number: usize,
@@ -16,18 +15,16 @@ pub fn write_original(
     values: &[u8],
     out: &mut [u8],
     place: usize,
-) -> Written
+) -> Result<usize, Error>
     ensures { WroteAt (write_original_in file.now number entries.now values.now (length out.old) place) place out.old out.new result }
 {
-    let read = columns_for(file, number, values, Input::Values);
-    let found = read.found;
-    match found {
-        Found::Refused(e) => Written::Refused(e),
-        Found::Yes => encode::writers::write_original(read.columns, entries, values, out, place),
-    }
+    let columns = columns_for(file, number, values, Input::Values)?;
+    encode::writers::write_original(columns, entries, values, out, place)
 }
 
 // Writes update data into `out` from `place` on, one entry a column.
+// Kept: the two writers are calls of their own, as the C interface names them; a closure for one line is no plainer.
+#[tactic(auto, using(crate::proofs::Laws::rewritten_listed))]
 pub fn write_update(
     file: &[u8],
     number: usize,
@@ -35,13 +32,9 @@ pub fn write_update(
     values: &[u8],
     out: &mut [u8],
     place: usize,
-) -> Written
+) -> Result<usize, Error>
     ensures { WroteAt (write_update_in file.now number entries.now values.now (length out.old) place) place out.old out.new result }
 {
-    let read = columns_for(file, number, values, Input::Values);
-    let found = read.found;
-    match found {
-        Found::Refused(e) => Written::Refused(e),
-        Found::Yes => encode::writers::write_update(read.columns, entries, values, out, place),
-    }
+    let columns = columns_for(file, number, values, Input::Values)?;
+    encode::writers::write_update(columns, entries, values, out, place)
 }

@@ -1,7 +1,8 @@
 -- Promise: the values of answers about headers, handler options and schema files, as C and Rust see them.
 -- Assumes nothing.
 use Rattle.std.specs.Prelude.{ℕ, List, [], ◌∷◌}
-use Rattle.questions.specs.Questions.{Counts, Asked}
+use Rattle.questions.specs.declared.file.Counts.{Counts}
+use Rattle.questions.specs.Questions.{Asked}
 use Rattle.header.specs.declared.header.Header.{Header}
 use Rattle.options.specs.declared.options.Options.{Options}
 

@@ -4,9 +4,11 @@ ghost use Rattle.plan.specs.Plans.{lent};
 ghost use Rattle.batch.specs.Pages.{page_found, page_after, page_count, told_page};
 ghost use Rattle.adtg_c.specs.PageAnswers.{page_answer};
 
-use batch::page::{PageRead, find_page};
+use batch::page::{PageCount, find_page};
+use wire::error::Error;
 
 // What a page answers: 0, the row that comes next and how many spans there are; or the error's code, offset and input.
+// Kept: a struct of the C interface, which has no `Result`.
 #[repr(C)]
 #[derive(Clone, Copy)]
 pub struct PageAnswer {
@@ -17,21 +19,17 @@ pub struct PageAnswer {
 }
 
 // The answer of a page, as a value.
-fn answer_page(page: PageRead) -> PageAnswer
+fn answer_page(page: Result<PageCount, Error>) -> PageAnswer
     ensures { result ≡ page_answer (told_page page) }
 {
     match page {
-        PageRead::Refused(e) => {
-            let kind = e.kind;
-            let input = e.input;
-            PageAnswer {
-                code: kind.code(),
-                first: e.offset as u64,
-                second: input.number(),
-                spans: 0,
-            }
-        }
-        PageRead::Page { spans, next } => PageAnswer {
+        Err(e) => PageAnswer {
+            code: e.kind.code(),
+            first: e.offset as u64,
+            second: e.input.number(),
+            spans: 0,
+        },
+        Ok(PageCount { spans, next }) => PageAnswer {
             code: 0,
             first: next as u64,
             second: 0,

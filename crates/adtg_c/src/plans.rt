@@ -4,20 +4,20 @@ ghost use Rattle.std.specs.Prelude.{◌≡◌};
 ghost use Rattle.plan.specs.Plans.{fixed_place, lent};
 ghost use Rattle.jump.specs.Jumps.{planned_row};
 ghost use Rattle.jump.specs.Handles.{opened_row};
-ghost use Rattle.adtg.specs.Plans.{plan_in};
+ghost use Rattle.adtg.specs.Plans.{plan_in, blank};
 ghost use Rattle.answers.specs.Answers.{Answered, size_values};
 ghost use Rattle.answers.specs.PlanAnswers.{found_answer, place_values};
 ghost use Rattle.adtg_c.specs.PlanAnswers.{plan_answer, CheckTold};
 
 use adtg::plans::{check_plan, make_plan};
-use answers::answer::{answer_int, answer_match};
+use answers::answer::{answer_match, answer_size};
 use answers::plans::{FoundAnswer, answer_place, found_answer};
 use jump::look::{look_lent, open_row};
 use plan::fixed::fixed_place;
 use plan::plan::Plan;
-use questions::file::Found;
 
 // A plan that was made, or the error with the blank plan beside it.
+// Kept: a struct of the C interface, which has no `Result`.
 #[repr(C)]
 #[derive(Clone, Copy)]
 pub struct PlanAnswer {
@@ -27,34 +27,33 @@ pub struct PlanAnswer {
     pub plan: Plan,
 }
 
+// The plan of no columns.
+fn blank_plan() -> Plan
+    ensures { result ≡ blank }
+{
+    Plan {
+        numbers: [0usize; 131],
+    }
+}
+
 // The plan of schema `number`.
 #[unsafe(no_mangle)]
 pub extern "C" fn adtg_make_plan(file: &[u8], number: usize) -> PlanAnswer
     ensures { result ≡ plan_answer (plan_in file.now number) }
 {
-    let read = make_plan(file, number);
-    let found = read.found;
-    match found {
-        Found::Refused(e) => {
-            let plan = read.plan;
-            let kind = e.kind;
-            let input = e.input;
-            PlanAnswer {
-                code: kind.code(),
-                offset: e.offset as u64,
-                input: input.number(),
-                plan,
-            }
-        }
-        Found::Yes => {
-            let plan = read.plan;
-            PlanAnswer {
-                code: 0,
-                offset: 0,
-                input: 0,
-                plan,
-            }
-        }
+    match make_plan(file, number) {
+        Err(e) => PlanAnswer {
+            code: e.kind.code(),
+            offset: e.offset as u64,
+            input: e.input.number(),
+            plan: blank_plan(),
+        },
+        Ok(plan) => PlanAnswer {
+            code: 0,
+            offset: 0,
+            input: 0,
+            plan,
+        },
     }
 }
 
@@ -84,7 +83,7 @@ pub extern "C" fn adtg_fixed_place(plan: Plan, column: usize, out: &mut [u64; 16
 pub extern "C" fn adtg_open_row(plan: Plan, row: &[u8], out: &mut [u64; 16]) -> u32
     ensures { Answered size_values (opened_row plan row.now) result out.new }
 {
-    answer_int(open_row(plan, row), out)
+    answer_size(open_row(plan, row), out)
 }
 
 // What a row has at a column, by a plan whose numbers are lent.

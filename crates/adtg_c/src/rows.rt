@@ -11,7 +11,7 @@ ghost use Rattle.answers.specs.RowAnswers.{look_up_values, update_values, curren
 use adtg::rows::{field_count, look_up, row_end};
 use adtg::updates::{current, look_update, update_end};
 use adtg::writers::{write_original, write_update};
-use answers::answer::{answer_int, answer_written};
+use answers::answer::answer_size;
 use answers::rows::{answer_current, answer_look_up, answer_update};
 
 // What a row has at a column.
@@ -38,7 +38,7 @@ pub extern "C" fn adtg_field_count(
 ) -> u32
     ensures { Answered size_values (field_count_in file.now number row.now) result out.new }
 {
-    answer_int(field_count(file, number, row), out)
+    answer_size(field_count(file, number, row), out)
 }
 
 // Where the row at `at` ends.
@@ -52,7 +52,7 @@ pub extern "C" fn adtg_row_end(
 ) -> u32
     ensures { Answered size_values (row_end_in file.now number row.now at) result out.new }
 {
-    answer_int(row_end(file, number, row, at), out)
+    answer_size(row_end(file, number, row, at), out)
 }
 
 // What update data say of a column.
@@ -70,6 +70,7 @@ pub extern "C" fn adtg_look_update(
 }
 
 // Where the update data at `at` end.
+// Kept: an exported name, with a definition of its own.
 #[unsafe(no_mangle)]
 pub extern "C" fn adtg_update_end(
     file: &[u8],
@@ -80,7 +81,7 @@ pub extern "C" fn adtg_update_end(
 ) -> u32
     ensures { Answered size_values (update_end_in file.now number update.now at) result out.new }
 {
-    answer_int(update_end(file, number, update, at), out)
+    answer_size(update_end(file, number, update, at), out)
 }
 
 // The current value of a column of a changed row.
@@ -112,13 +113,14 @@ pub extern "C" fn adtg_write_original(
     ensures answers { Answered size_values (size_of (write_original_in file.now number entries.now values.now (length dst.old) place)) result out.new }
     ensures leaves { dst.new ≡ output_with (write_original_in file.now number entries.now values.now (length dst.old) place) place dst.old }
 {
-    answer_written(
+    answer_size(
         write_original(file, number, entries, values, dst, place),
         out,
     )
 }
 
 // Writes update data into `dst` from `place` on: bytes written.
+// Kept: an exported name, with a definition of its own.
 #[unsafe(no_mangle)]
 pub extern "C" fn adtg_write_update(
     file: &[u8],
@@ -132,5 +134,5 @@ pub extern "C" fn adtg_write_update(
     ensures answers { Answered size_values (size_of (write_update_in file.now number entries.now values.now (length dst.old) place)) result out.new }
     ensures leaves { dst.new ≡ output_with (write_update_in file.now number entries.now values.now (length dst.old) place) place dst.old }
 {
-    answer_written(write_update(file, number, entries, values, dst, place), out)
+    answer_size(write_update(file, number, entries, values, dst, place), out)
 }

@@ -1,32 +1,18 @@
 // Row sections.
 ghost use Rattle.std.specs.Prelude.{◌≡◌, length};
-ghost use Rattle.section.specs.Table.{rows_checked, rows_listed, table_after, row_count, told_rows};
+ghost use Rattle.section.specs.Table.{rows_checked, rows_listed, table_after, row_count};
 ghost use Rattle.answers.specs.Answers.{Answered, size_values};
 
-use answers::answer::{refuse, tell};
+use answers::answer::answer_size;
 use section::check::check_section;
 use section::list::list_section;
-use section::read::RowsRead;
-
-// The answer of a section that was read: how many rows it has.
-fn answer_rows(rows: RowsRead, out: &mut [u64; 16]) -> u32
-    ensures { Answered size_values (told_rows rows) result out.new }
-{
-    match rows {
-        RowsRead::Refused(e) => refuse(e, out),
-        RowsRead::Rows(n) => {
-            *out = tell(n, 0, 0, 0, 0);
-            0
-        }
-    }
-}
 
 // Checks a whole row section: how many rows it has.
 #[unsafe(no_mangle)]
 pub extern "C" fn adtg_check_section(file: &[u8], section: &[u8], out: &mut [u64; 16]) -> u32
     ensures { Answered size_values (row_count (rows_checked file.now section.now)) result out.new }
 {
-    answer_rows(check_section(file, section), out)
+    answer_size(check_section(file, section), out)
 }
 
 // Checks a whole row section and lists its rows in `table`, four numbers a row: how many rows.
@@ -40,5 +26,5 @@ pub extern "C" fn adtg_list_section(
     ensures answers { Answered size_values (row_count (rows_listed file.now section.now (length table.old))) result out.new }
     ensures leaves { table.new ≡ table_after (rows_listed file.now section.now (length table.old)) table.old }
 {
-    answer_rows(list_section(file, section, table), out)
+    answer_size(list_section(file, section, table), out)
 }

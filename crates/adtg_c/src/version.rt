@@ -16,6 +16,6 @@ pub const PLAN_LAYOUT: usize = 1;
 pub extern "C" fn adtg_version(out: &mut [u64; 16]) -> u32
     ensures { Answered version_values (ok version) result out.new }
 {
-    *out = tell(VERSION, PLAN_LAYOUT, 0, 0, 0);
+    *out = tell(&[VERSION, PLAN_LAYOUT]);
     0
 }

@@ -1,86 +1,68 @@
 // An answer as sixteen numbers and a status.
-ghost use Rattle.std.specs.Prelude.{◌≡◌, [], ◌∷◌};
-ghost use Rattle.wire.specs.Output.{told_written};
-ghost use Rattle.wire.specs.Read.{refused, told_match};
-ghost use Rattle.wire.specs.Integers.{told_int};
+ghost use Rattle.std.specs.Prelude.{◌≡◌, ◌≤◌, length, MatchResult, Ok};
+ghost use Rattle.wire.specs.Read.{refused, told};
 ghost use Rattle.answers.specs.Answers.{Answered, padded, size_values, unit_values, no_values};
 
-use wire::bytes::Matched;
 use wire::error::Error;
-use wire::integer::IntRead;
-use wire::output::Written;
 
-// Five numbers as an answer, and zeros.
-pub fn tell(a: usize, b: usize, c: usize, d: usize, e: usize) -> [u64; 16]
-    ensures { result ≡ padded (a ∷ b ∷ c ∷ d ∷ e ∷ []) }
+// Up to sixteen numbers as an answer, and zeros.
+pub fn tell(values: &[usize]) -> [u64; 16]
+    ensures { length values.now ≤ 16 → result ≡ padded values.now }
 {
-    [
-        a as u64, b as u64, c as u64, d as u64, e as u64, 0, 0, 0, 0, 0, 0, 0, 0, 0, 0, 0,
-    ]
+    let mut numbers = [0u64; 16];
+    for i in 0..values.len().min(16) {
+        numbers[i] = values[i] as u64;
+    }
+    numbers
 }
 
 // The answer of a call that is refused.
 pub fn refuse(e: Error, out: &mut [u64; 16]) -> u32
     ensures { Answered no_values (refused e) result out.new }
 {
-    let kind = e.kind;
-    let input = e.input;
-    *out = [
-        e.offset as u64,
-        input.number(),
-        0,
-        0,
-        0,
-        0,
-        0,
-        0,
-        0,
-        0,
-        0,
-        0,
-        0,
-        0,
-        0,
-        0,
-    ];
-    kind.code()
+    *out = [0; 16];
+    out[0] = e.offset as u64;
+    out[1] = e.input.number();
+    e.kind.code()
 }
 
-// The answer of a writer.
-pub fn answer_written(w: Written, out: &mut [u64; 16]) -> u32
-    ensures { Answered size_values (told_written w) result out.new }
+// The answer of a call that gives these numbers.
+pub fn answer(numbers: Result<[u64; 16], Error>, out: &mut [u64; 16]) -> u32
+    ensures { MatchResult numbers (λ l. (result ≡ 0) × (out.new ≡ l)) (λ e. Answered no_values (refused e) result out.new) }
 {
-    match w {
-        Written::Refused(e) => refuse(e, out),
-        Written::Bytes(n) => {
-            *out = [n as u64, 0, 0, 0, 0, 0, 0, 0, 0, 0, 0, 0, 0, 0, 0, 0];
+    match numbers {
+        Err(e) => refuse(e, out),
+        Ok(numbers) => {
+            *out = numbers;
             0
         }
     }
+}
+
+// One number.
+fn size_numbers(size: usize) -> [u64; 16]
+    ensures { Answered size_values (told (Ok size)) 0 result }
+{
+    tell(&[size])
 }
 
 // The answer of a call that gives one number.
-pub fn answer_int(read: IntRead, out: &mut [u64; 16]) -> u32
-    ensures { Answered size_values (told_int read) result out.new }
+pub fn answer_size(size: Result<usize, Error>, out: &mut [u64; 16]) -> u32
+    ensures { Answered size_values (told size) result out.new }
 {
-    match read {
-        IntRead::Refused(e) => refuse(e, out),
-        IntRead::Int(n) => {
-            *out = tell(n, 0, 0, 0, 0);
-            0
-        }
-    }
+    answer(size.map(size_numbers), out)
+}
+
+// No number.
+fn no_numbers(done: ()) -> [u64; 16]
+    ensures { Answered unit_values (told (Ok done)) 0 result }
+{
+    tell(&[])
 }
 
 // The answer of a check.
-pub fn answer_match(answer: Matched, out: &mut [u64; 16]) -> u32
-    ensures { Answered unit_values (told_match answer) result out.new }
+pub fn answer_match(checked: Result<(), Error>, out: &mut [u64; 16]) -> u32
+    ensures { Answered unit_values (told checked) result out.new }
 {
-    match answer {
-        Matched::Refused(e) => refuse(e, out),
-        Matched::Same => {
-            *out = tell(0, 0, 0, 0, 0);
-            0
-        }
-    }
+    answer(checked.map(no_numbers), out)
 }

@@ -1,15 +1,16 @@
 // Answers about plans: a place, a look-up.
-ghost use Rattle.std.specs.Prelude.{◌≡◌};
+ghost use Rattle.std.specs.Prelude.{◌≡◌, Ok};
 ghost use Rattle.row.specs.Told.{told_look_up};
 ghost use Rattle.plan.specs.Told.{told_place};
 ghost use Rattle.answers.specs.Answers.{Answered};
 ghost use Rattle.answers.specs.PlanAnswers.{found_answer, place_values};
 
-use crate::answer::{refuse, tell};
-use plan::fixed::PlaceRead;
+use crate::answer::{answer, tell};
 use row::rows::LookUp;
+use wire::error::Error;
 
 // What a look-up through a plan answers.
+// Kept: numbers for its kind and an error, as the C interface has them.
 #[repr(C)]
 #[derive(Clone, Copy)]
 pub struct FoundAnswer {
@@ -20,59 +21,55 @@ pub struct FoundAnswer {
     pub prefixes: u64,
 }
 
-// The answer of a question for a place.
-pub fn answer_place(place: PlaceRead, out: &mut [u64; 16]) -> u32
-    ensures { Answered place_values (told_place place) result out.new }
+// The numbers of a place.
+fn place_numbers(place: Option<usize>) -> [u64; 16]
+    ensures { Answered place_values (told_place (Ok place)) 0 result }
 {
     match place {
-        PlaceRead::Refused(e) => refuse(e, out),
-        PlaceRead::Fixed(n) => {
-            *out = tell(1, n, 0, 0, 0);
-            0
-        }
-        PlaceRead::Moving => {
-            *out = tell(2, 0, 0, 0, 0);
-            0
-        }
+        Some(n) => tell(&[1, n]),
+        None => tell(&[2]),
     }
 }
 
+// The answer of a question for a place.
+pub fn answer_place(place: Result<Option<usize>, Error>, out: &mut [u64; 16]) -> u32
+    ensures { Answered place_values (told_place place) result out.new }
+{
+    answer(place.map(place_numbers), out)
+}
+
 // The answer of a look-up, as a value.
-pub fn found_answer(answer: LookUp) -> FoundAnswer
+pub fn found_answer(answer: Result<LookUp, Error>) -> FoundAnswer
     ensures { result ≡ found_answer (told_look_up answer) }
 {
     match answer {
-        LookUp::Found(f) => FoundAnswer {
+        Ok(LookUp::Found(f)) => FoundAnswer {
             code: 0,
             kind: 1,
             first: f.start as u64,
             second: f.end as u64,
             prefixes: f.prefixes as u64,
         },
-        LookUp::Null => FoundAnswer {
+        Ok(LookUp::Null) => FoundAnswer {
             code: 0,
             kind: 2,
             first: 0,
             second: 0,
             prefixes: 0,
         },
-        LookUp::Chapter => FoundAnswer {
+        Ok(LookUp::Chapter) => FoundAnswer {
             code: 0,
             kind: 3,
             first: 0,
             second: 0,
             prefixes: 0,
         },
-        LookUp::Refused(e) => {
-            let kind = e.kind;
-            let input = e.input;
-            FoundAnswer {
-                code: kind.code(),
-                kind: 0,
-                first: e.offset as u64,
-                second: input.number(),
-                prefixes: 0,
-            }
-        }
+        Err(e) => FoundAnswer {
+            code: e.kind.code(),
+            kind: 0,
+            first: e.offset as u64,
+            second: e.input.number(),
+            prefixes: 0,
+        },
     }
 }

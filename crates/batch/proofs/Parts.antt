@@ -1,16 +1,14 @@
 -- One row's span: what a look-up in the part of a section tells of the section.
 -- Assumes nothing.
-use Prim.Native.Nat.{ℕ, ◌+◌, ◌*◌, ◌-◌, ◌≤◌}
+use Prim.Native.Nat.{ℕ, ◌+◌, ◌-◌, ◌≤◌}
 use mathlib.Core.Bool.{Bool, true, false}
 use mathlib.Core.Path.{◌≡◌, refl, sym, ap, ◌∙◌}
-use mathlib.Core.List.{List}
 use native.Mathlib.Omega.{arith}
-use lib.ListN.{length, get_or, take, drop, length-drop}
-use borrow.Author.Tests.{eq-eqb, ne_eqb}
+use lib.ListN.{length, take, drop, length-drop}
 use Rattle.wire.specs.declared.error.Error.{Error}
 use Rattle.wire.specs.declared.error.Input.{Input}
 use Rattle.wire.specs.declared.error.Input.TheVariants as input
-use Rattle.wire.specs.Errors.{code_of, input_number}
+use Rattle.wire.specs.Errors.{code_of}
 use Rattle.wire.specs.Read.{Bytes, Read, ok, bad, ◌>>=◌, pick, refused}
 use Rattle.column.specs.declared.field.Field.{Field}
 use Rattle.walk.specs.Rows.{Answer, field, null, chapter}
@@ -18,30 +16,43 @@ use Rattle.walk.proofs.Arrays.{rest}
 use Rattle.plan.specs.declared.plan.Plan.{Plan}
 use Rattle.jump.specs.Jumps.{planned_row}
 use Rattle.jump.proofs.Inside.{row_inside}
-use Rattle.batch.specs.Spans.{row_at, parents, owner_of, start_in, Span, span, null_mark, chapter_mark, span_of, is_row, moved, span_in, planned}
+use Rattle.batch.specs.Spans.{start_in, Span, span, null_mark, chapter_mark, span_of, is_row, moved, span_in, planned}
 use Rattle.batch.proofs.Places.{row_errors, error_inside}
-
--- Owners.
-
-module _ (table : List ℕ) (i : ℕ) where
-  pub owner_parent : get_or table (4 * i) 0 ≡ 1 → owner_of (row_at table i) ≡ parents
-  unfolding owner_of
-  owner_parent e = rw (eq-eqb _ _ e) refl
-
-  pub owner_child : (get_or table (4 * i) 0 ≡ 1 → ⊥) → owner_of (row_at table i) ≡ get_or table (4 * i + 1) 0
-  unfolding owner_of
-  owner_child d = rw (ne_eqb _ _ d) refl
 
 -- Errors.
 
-module _ (from : ℕ) (e : Error) where
-  pub moved_row : input_number e.input ≡ input_number input.Row → ◌≡◌ {A = Read Span} (moved from (refused e)) (bad (code_of e.kind) (from + e.offset) input.Section)
-  unfolding moved
-  moved_row q = rw (eq-eqb _ _ q) refl
+no_row : (i : Input) → (i ≡ input.Row → ⊥) → is_row i ≡ false
+no_row input.Single d = refl
+no_row input.Schema d = refl
+no_row input.SchemaNumber d = refl
+no_row input.Row d = absurd (d refl)
+no_row input.Update d = refl
+no_row input.Column d = refl
+no_row input.Section d = refl
+no_row input.Table d = refl
+no_row input.Output d = refl
+no_row input.Plan d = refl
+no_row input.Entries d = refl
+no_row input.Values d = refl
+no_row input.Place d = refl
+no_row input.Numbers d = refl
+no_row input.Order d = refl
+no_row input.Unicode d = refl
+no_row input.FirstString d = refl
+no_row input.SecondString d = refl
+no_row input.ThirdString d = refl
+no_row input.Async d = refl
+no_row input.ChildId d = refl
+no_row input.Reader d = refl
 
-  pub moved_other : (input_number e.input ≡ input_number input.Row → ⊥) → ◌≡◌ {A = Read Span} (moved from (refused e)) (refused e)
+module _ (from : ℕ) (e : Error) where
+  pub moved_row : e.input ≡ input.Row → ◌≡◌ {A = Read Span} (moved from (refused e)) (bad (code_of e.kind) (from + e.offset) input.Section)
   unfolding moved
-  moved_other d = rw (ne_eqb _ _ d) refl
+  moved_row q = rw q refl
+
+  pub moved_other : (e.input ≡ input.Row → ⊥) → ◌≡◌ {A = Read Span} (moved from (refused e)) (refused e)
+  unfolding moved
+  moved_other d = rw (no_row e.input d) refl
 
 -- an error is moved before or after
 moved_span : (from : ℕ) (code offset : ℕ) (i : Input) (g : Answer → Span) →

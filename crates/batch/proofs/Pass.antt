@@ -1,29 +1,21 @@
 -- One pass over a table of rows: what is ahead of row i, with what was found so far, is what was ahead of the first.
 -- Assumes nothing.
+use Rattle.std.specs.Prelude.{Ok, Err}
 use Prim.Native.Nat.{ℕ, suc, ◌+◌, ◌*◌, ◌-◌, ◌/◌, ◌<◌, ◌≤◌}
 use mathlib.Core.Path.{◌≡◌, refl, sym, ap, ◌∙◌}
-use mathlib.Core.List.{List, [], ◌∷◌}
-use native.Mathlib.Numerals.{add-one}
+use mathlib.Core.List.{List, ◌∷◌}
 use native.Mathlib.Omega.{arith}
 use lib.ListN.{length}
-use borrow.Author.Tests.{eq-eqb, ne_eqb}
+use lib.Dec.{eqb}
+use mathlib.Core.Bool.{true, false}
 use Rattle.wire.specs.declared.error.Error.{Error}
 use Rattle.wire.specs.Read.{Bytes, Read, ok, bad, ◌>>=◌, refused}
 use Rattle.wire.specs.Output.{put}
 use Rattle.wire.proofs.Laws.{length_put}
 use Rattle.walk.specs.Rows.{Answer}
-use Rattle.batch.specs.declared.find.SpansRead.TheVariants as read
 use Rattle.batch.specs.Spans.{row_at, rows_from, rows_of, owner_of, Span, span_numbers, span_in, spans_in}
+use Rattle.batch.proofs.Rows.{rows_next, rows_end}
 use Rattle.batch.specs.Scan.{laid_from, pass, passed, Scanned}
-
--- the next row of a table
-rows_next : (table : List ℕ) (n i : ℕ) → i < n → rows_from table (n - i) i ≡ row_at table i ∷ rows_from table (n - (i + 1)) (i + 1)
-unfolding rows_from
-rows_next table n i h = let z : n - i ≡ suc (n - (i + 1)) = omega arith in rw (z, add-one i) refl
-
-rows_end : (table : List ℕ) (n i : ℕ) → n ≤ i → rows_from table (n - i) i ≡ []
-unfolding rows_from
-rows_end table n i h = let z : n - i ≡ 0 = omega arith in rw z refl
 
 -- a span that was found is the first of those ahead
 passed_next : (numbers : List ℕ) (count : ℕ) (x : Span) (r : Read (List Span)) →
@@ -50,7 +42,7 @@ module _ (look : Bytes → Read Answer) (s : Bytes) (owner : ℕ) (table : List 
       record { same = ap (λ (n : ℕ). passed (pass 0 first) (spans_in look s owner (rows_from table n 0))) z; few = omega arith; long = refl }
 
   module _ (numbers : List ℕ) (i count : ℕ) (a : AtRow look s owner table first numbers i count) where
-    pub at_end : length table / 4 ≤ i → Scanned (spans_in look s owner (rows_of table)) first numbers (read.Spans count)
+    pub at_end : length table / 4 ≤ i → Scanned (spans_in look s owner (rows_of table)) first numbers (Ok count)
     unfolding spans_in passed laid_from
     at_end h =
         let z : count + 0 ≡ count = omega arith in
@@ -61,22 +53,22 @@ module _ (look : Bytes → Read Answer) (s : Bytes) (owner : ℕ) (table : List 
 
     module _ (h : i < length table / 4) where
       -- a row of another owner
-      pub at_other : (owner_of (row_at table i) ≡ owner → ⊥) → AtRow look s owner table first numbers (i + 1) count
+      pub at_other : eqb (owner_of (row_at table i)) owner ≡ false → AtRow look s owner table first numbers (i + 1) count
       unfolding spans_in
       at_other d =
           record {
-            same = a.same ∙ rw (rows_next table (length table / 4) i h, ne_eqb _ _ d) refl;
+            same = a.same ∙ rw (rows_next table (length table / 4) i h, d) refl;
             few = omega (arith, a.few);
             long = a.long;
           }
 
-      module _ (d : owner_of (row_at table i) ≡ owner) where
+      module _ (d : eqb (owner_of (row_at table i)) owner ≡ true) where
         pub at_refused : (e : Error) → span_in look s (row_at table i).original ≡ refused e →
-            Scanned (spans_in look s owner (rows_of table)) first numbers (read.Refused e)
+            Scanned (spans_in look s owner (rows_of table)) first numbers (Err e)
         unfolding spans_in passed
         at_refused e q =
             record {
-              told = sym (a.same ∙ rw (rows_next table (length table / 4) i h, eq-eqb _ _ d, q) refl);
+              told = sym (a.same ∙ rw (rows_next table (length table / 4) i h, d, q) refl);
               long = a.long;
             }
 
@@ -85,7 +77,7 @@ module _ (look : Bytes → Read Answer) (s : Bytes) (owner : ℕ) (table : List 
         unfolding spans_in
         at_span x after q e =
             record {
-              same = a.same ∙ rw (rows_next table (length table / 4) i h, eq-eqb _ _ d, q, e) (passed_next numbers count x (ahead look s owner table first (i + 1)));
+              same = a.same ∙ rw (rows_next table (length table / 4) i h, d, q, e) (passed_next numbers count x (ahead look s owner table first (i + 1)));
               few = omega (arith, a.few);
               long = ap length e ∙ length_put numbers (2 * count) (span_numbers x) ∙ a.long;
             }

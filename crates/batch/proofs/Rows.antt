@@ -10,11 +10,11 @@ use Rattle.batch.specs.Spans.{row_at, rows_from, owner_of}
 use Rattle.batch.specs.Pages.{numbered, owned_from, owned_in}
 
 -- the next row of a table
-rows_next : (table : List ℕ) (n i : ℕ) → i < n → rows_from table (n - i) i ≡ row_at table i ∷ rows_from table (n - (i + 1)) (i + 1)
+pub rows_next : (table : List ℕ) (n i : ℕ) → i < n → rows_from table (n - i) i ≡ row_at table i ∷ rows_from table (n - (i + 1)) (i + 1)
 unfolding rows_from
 rows_next table n i h = let z : n - i ≡ suc (n - (i + 1)) = omega arith in rw (z, add-one i) refl
 
-rows_end : (table : List ℕ) (n i : ℕ) → n ≤ i → rows_from table (n - i) i ≡ []
+pub rows_end : (table : List ℕ) (n i : ℕ) → n ≤ i → rows_from table (n - i) i ≡ []
 unfolding rows_from
 rows_end table n i h = let z : n - i ≡ 0 = omega arith in rw z refl
 

@@ -3,3 +3,4 @@ pub mod Pages
 -- Inner.
 pub mod Scan
 pub mod PageScan
+pub mod Search

@@ -1,14 +1,14 @@
 -- Promise: pages of a batch: one column of the rows of one owner, from one row of a table on, as many as there is room for.
 -- Assumes nothing.
-use Rattle.std.specs.Prelude.{ℕ, zero, suc, ◌-◌, ◌/◌, min, ◌≡◌, List, [], ◌∷◌, ◌++◌, length, leb, eqb}
+use Rattle.std.specs.Prelude.{ℕ, zero, suc, ◌-◌, ◌/◌, min, ◌≡◌, List, [], ◌∷◌, ◌++◌, length, leb, eqb, Result, Ok, Err}
+use Rattle.batch.specs.declared.page.PageCount.{PageCount}
+use Rattle.wire.specs.declared.error.Error.{Error}
 use Rattle.wire.specs.declared.error.Input.TheVariants as input
 use Rattle.wire.specs.Read.{Bytes, Read, ok, bad, ◌>>=◌, pick, check, about, limit, sized, refused}
 use Rattle.wire.specs.Output.{put}
 use Rattle.walk.specs.Rows.{Answer}
 use Rattle.plan.specs.declared.plan.Plan.{Plan}
 use Rattle.grammar.specs.Grammar.{Row}
-use Rattle.batch.specs.declared.page.PageRead.{PageRead}
-use Rattle.batch.specs.declared.page.PageRead.TheVariants as read
 use Rattle.batch.specs.Spans.{rows_from, owner_of, Span, span_in, planned}
 
 -- A row with its number in the table.
@@ -110,12 +110,12 @@ abbrev pub page_count : Read Page → Read Counted
 page_count (ok p) = ok (counted (length p.found) p.next)
 page_count (bad code offset about) = bad code offset about
 
--- what a `PageRead` says
-abbrev pub told_page : PageRead → Read Counted
-told_page (read.Page n next) = ok (counted n next)
-told_page (read.Refused e) = refused e
+-- what the `Result` says
+abbrev pub told_page : Result PageCount Error → Read Counted
+told_page (Ok p) = ok (counted p.spans p.next)
+told_page (Err e) = refused e
 
 -- What a page promises: how many spans and the row that comes next, or the error; and what the caller's numbers then are.
-pub record Paged (p : Read Page) (entry exit : List ℕ) (answer : PageRead) : Type 0 where
+pub record Paged (p : Read Page) (entry exit : List ℕ) (answer : Result PageCount Error) : Type 0 where
   pub answers : told_page answer ≡ page_count p
   pub leaves : exit ≡ page_after p entry

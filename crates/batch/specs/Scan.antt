@@ -1,18 +1,16 @@
 -- Inner: what the contracts of inner functions cite: one row's answer, and one pass over the rows.
 -- Assumes nothing.
-use Rattle.std.specs.Prelude.{ℕ, ◌+◌, ◌*◌, ◌≡◌, List, [], ◌∷◌, length}
+use Rattle.std.specs.Prelude.{ℕ, ◌+◌, ◌*◌, ◌≡◌, List, [], ◌∷◌, length, Result, Ok, Err}
+use Rattle.batch.specs.declared.search.RowSpan.{RowSpan}
+use Rattle.wire.specs.declared.error.Error.{Error}
 use Rattle.wire.specs.Read.{Read, ok, bad, refused}
 use Rattle.wire.specs.Output.{put}
-use Rattle.batch.specs.declared.find.SpanRead.{SpanRead}
-use Rattle.batch.specs.declared.find.SpanRead.TheVariants as one
-use Rattle.batch.specs.declared.find.SpansRead.{SpansRead}
-use Rattle.batch.specs.declared.find.SpansRead.TheVariants as read
 use Rattle.batch.specs.Spans.{Span, span, span_numbers}
 
--- what a `SpanRead` says
-abbrev pub told_span : SpanRead → Read Span
-told_span (one.At start end) = ok (span start end)
-told_span (one.Refused e) = refused e
+-- what the `Result` says
+abbrev pub told_span : Result RowSpan Error → Read Span
+told_span (Ok x) = ok (span x.start x.end)
+told_span (Err e) = refused e
 
 -- numbers with spans laid into them, the first as span i; a span that does not fit leaves them
 unfoldable pub laid_from : ℕ → List Span → List ℕ → List ℕ
@@ -33,11 +31,11 @@ passed w (ok xs) = ok (pass (w.count + length xs) (laid_from w.count xs w.number
 passed w (bad code offset about) = bad code offset about
 
 -- what a pass answers, with the numbers that it leaves
-abbrev pub told_pass : SpansRead → List ℕ → Read Pass
-told_pass (read.Spans n) exit = ok (pass n exit)
-told_pass (read.Refused e) exit = refused e
+abbrev pub told_pass : Result ℕ Error → List ℕ → Read Pass
+told_pass (Ok n) exit = ok (pass n exit)
+told_pass (Err e) exit = refused e
 
 -- What a pass over rows promises: the spans or the first error, and numbers of the same length.
-pub record Scanned (xs : Read (List Span)) (entry exit : List ℕ) (answer : SpansRead) : Type 0 where
+pub record Scanned (xs : Read (List Span)) (entry exit : List ℕ) (answer : Result ℕ Error) : Type 0 where
   pub told : told_pass answer exit ≡ passed (pass 0 entry) xs
   pub long : length exit ≡ length entry

@@ -1,17 +1,16 @@
 -- Promise: one column of many rows: where its field stands in a section, for each row of one table.
 -- Assumes nothing.
-use Rattle.std.specs.Prelude.{ℕ, zero, suc, ◌+◌, ◌*◌, ◌/◌, min, ◌≡◌, List, [], ◌∷◌, ◌++◌, Bool, length, get_or, drop, leb, eqb}
+use Rattle.std.specs.Prelude.{ℕ, zero, suc, ◌+◌, ◌*◌, ◌/◌, min, ◌≡◌, List, [], ◌∷◌, ◌++◌, Bool, length, get_or, drop, leb, eqb, Result}
+use Rattle.wire.specs.declared.error.Error.{Error}
 use Rattle.wire.specs.declared.error.Input.{Input}
 use Rattle.wire.specs.declared.error.Input.TheVariants as input
 use Rattle.wire.specs.Errors.{input_number}
-use Rattle.wire.specs.Read.{Bytes, Read, ok, bad, ◌>>=◌, pick, check, about, sized, refused}
+use Rattle.wire.specs.Read.{Bytes, Read, ok, bad, ◌>>=◌, pick, check, about, sized, told}
 use Rattle.wire.specs.Output.{put}
 use Rattle.walk.specs.Rows.{Answer, field, null, chapter}
 use Rattle.plan.specs.declared.plan.Plan.{Plan}
 use Rattle.jump.specs.Jumps.{planned_row}
 use Rattle.grammar.specs.Grammar.{Row, entry}
-use Rattle.batch.specs.declared.find.SpansRead.{SpansRead}
-use Rattle.batch.specs.declared.find.SpansRead.TheVariants as read
 
 -- Row i of a table: four numbers.
 abbrev pub row_at : List ℕ → ℕ → Row
@@ -119,12 +118,7 @@ abbrev pub span_count : Read (List Span) → Read ℕ
 span_count (ok xs) = ok (length xs)
 span_count (bad code offset about) = bad code offset about
 
--- what a `SpansRead` says
-abbrev pub told_spans : SpansRead → Read ℕ
-told_spans (read.Spans n) = ok n
-told_spans (read.Refused e) = refused e
-
 -- What a batch promises: how many spans or the error, and what the caller's numbers then are.
-pub record Batched (xs : Read (List Span)) (entry exit : List ℕ) (answer : SpansRead) : Type 0 where
-  pub answers : told_spans answer ≡ span_count xs
+pub record Batched (xs : Read (List Span)) (entry exit : List ℕ) (answer : Result ℕ Error) : Type 0 where
+  pub answers : told answer ≡ span_count xs
   pub leaves : exit ≡ spans_after xs entry

@@ -3,3 +3,4 @@
 
 pub mod find;
 pub mod page;
+mod search;

@@ -225,14 +225,6 @@ module _ (most : ℕ) (even : Bool) (n : ℕ) where
   unfolding length_error_of
   rule_over h = rw (lt-leb n most h)
 
-  -- by the flag as a number
-  pub flag_odd : bool_byte even * (n % 2) ≤ 1
-  flag_odd = go even
-    where
-      go : (e : Bool) → bool_byte e * (n % 2) ≤ 1
-      go true = omega arith
-      go false = omega arith
-
   pub rule_under : n ≤ most → eqb (bool_byte even * (n % 2)) 0 ≡ eqb (length_error_of most even n) 0
   unfolding length_error_of
   rule_under h = rw (le-leb n most h) (go even)

@@ -1,11 +1,10 @@
 -- Promise: one column: what its type, flags and maximum decide (document 01, "Rows").
 -- Assumes nothing.
-use Rattle.std.specs.Prelude.{ℕ, ◌*◌, ◌%◌, Bool, true, false, ltb, leb, eqb}
+use Rattle.std.specs.Prelude.{ℕ, ◌*◌, ◌%◌, Bool, true, false, ltb, leb, eqb, Result, Ok, Err}
+use Rattle.wire.specs.declared.error.ErrorKind.{ErrorKind}
 use Rattle.wire.specs.Errors.{code_of}
 use Rattle.wire.specs.Read.{pick}
 use Rattle.column.specs.declared.column.Column.{Column}
-use Rattle.column.specs.declared.column.LengthCheck.{LengthCheck}
-use Rattle.column.specs.declared.column.LengthCheck.TheVariants.{Allowed, Refused}
 use Rattle.column.specs.declared.types.Kind.{Kind}
 use Rattle.column.specs.Types.{kind_of, width_of, variable_kind, wide_kind, chapter_kind}
 
@@ -52,7 +51,7 @@ length_error_of most even size = pick (leb size most) (pick even (pick (eqb (siz
 unfoldable pub length_error : Column → ℕ → ℕ
 length_error c size = pick (is_variable c) (length_error_of (greatest c) (is_wide c) size) 0
 
--- what a `LengthCheck` says
-abbrev pub told_length : LengthCheck → ℕ
-told_length Allowed = 0
-told_length (Refused k) = code_of k
+-- what the `Result` says
+abbrev pub told_length : Result (Unit {0}) ErrorKind → ℕ
+told_length (Ok tt) = 0
+told_length (Err k) = code_of k

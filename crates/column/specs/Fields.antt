@@ -2,12 +2,10 @@
 -- Assumes nothing.
 use Rattle.std.specs.Prelude.{ℕ, eqb}
 use Rattle.wire.specs.declared.error.Input.TheVariants.{Single}
-use Rattle.wire.specs.Read.{Bytes, Read, ok, bad, ◌>>=◌, pick, whole, refused}
+use Rattle.wire.specs.Read.{Bytes, Read, ok, bad, ◌>>=◌, pick, whole}
 use Rattle.wire.specs.Integers.{read_int}
 use Rattle.column.specs.declared.column.Column.{Column}
 use Rattle.column.specs.declared.field.Field.{Field}
-use Rattle.column.specs.declared.field.FieldRead.{FieldRead}
-use Rattle.column.specs.declared.field.FieldRead.TheVariants.{Found, Refused}
 use Rattle.column.specs.Columns.{width, is_variable, prefix_size, length_error}
 
 -- a field: its two ends, and the prefixes read for it
@@ -37,8 +35,3 @@ variable_at c row at = do
 unfoldable pub field_at : Column → Bytes → ℕ → Read Field
 unfolding variable_at bytes_at
 field_at c row at = pick (is_variable c) (variable_at c row at) (bytes_at row at (width c) 0)
-
--- what a `FieldRead` says
-abbrev pub told_field : FieldRead → Read Field
-told_field (Found f) = ok f
-told_field (Refused e) = refused e

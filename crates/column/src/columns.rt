@@ -9,13 +9,20 @@ use crate::packed::pack;
 // The most columns that a schema has.
 pub const MOST_COLUMNS: usize = 64;
 
-// Up to so many columns; behind the last one all numbers are 0.
+// Up to so many columns; behind the last one all are of zeros.
 #[derive(Clone, Copy)]
 pub struct Columns {
     pub count: usize,
-    pub codes: [u8; 64],
-    pub flags: [u8; 64],
-    pub maxima: [u16; 64],
+    pub columns: [Column; 64],
+}
+
+impl Columns {
+    // The columns themselves.
+    pub fn as_slice(&self) -> &[Column]
+        ensures { result.now ≡ columns_in self.now }
+    {
+        &self.columns[..self.count.min(64)]
+    }
 }
 
 // The same columns, each in one number.
@@ -23,15 +30,8 @@ pub fn pack_all(columns: Columns) -> [u32; 64]
     ensures { packed_from (min columns.count 64) 0 result ≡ columns_in columns }
 {
     let mut slots = [0u32; 64];
-    let mut i = 0;
-    while i < 64 {
-        let column = Column {
-            code: columns.codes[i],
-            flags: columns.flags[i],
-            maximum: columns.maxima[i],
-        };
-        slots[i] = pack(column) as u32;
-        i += 1;
+    for i in 0..64 {
+        slots[i] = pack(columns.columns[i]) as u32;
     }
     slots
 }

@@ -1,13 +1,14 @@
 // One field of a present column at a position of a row: where it starts and ends, and how many prefixes it has.
 ghost use Rattle.std.specs.Prelude.{◌≡◌};
-ghost use Rattle.wire.specs.Integers.{read_int, told_int};
+ghost use Rattle.wire.specs.Read.{told};
+ghost use Rattle.wire.specs.Integers.{read_int};
 ghost use Rattle.column.specs.Columns.{prefix_size};
-ghost use Rattle.column.specs.Fields.{bytes_at, variable_at, field_at, told_field};
+ghost use Rattle.column.specs.Fields.{bytes_at, variable_at, field_at};
 
-use crate::column::{Column, LengthCheck};
+use crate::column::Column;
 use wire::bytes::lacks;
 use wire::error::{Error, Input};
-use wire::integer::{IntRead, u8_at, u32_at};
+use wire::integer::{u8_at, u32_at};
 
 // A field: its two ends, and the number of length prefixes read for it, 0 or 1.
 #[derive(Clone, Copy)]
@@ -17,16 +18,10 @@ pub struct Field {
     pub prefixes: usize,
 }
 
-// A field that was read.
-#[derive(Clone, Copy)]
-pub enum FieldRead {
-    Found(Field),
-    Refused(Error),
-}
-
 // The length in front of a field of variable length.
-pub fn length_at(column: Column, row: &[u8], at: usize) -> IntRead
-    ensures { told_int result ≡ read_int row.now at (prefix_size column) }
+#[tactic(auto, using(crate::proofs::Laws::prefix_else))]
+pub fn length_at(column: Column, row: &[u8], at: usize) -> Result<usize, Error>
+    ensures { told result ≡ read_int row.now at (prefix_size column) }
 {
     if column.prefix_size() == 1 {
         u8_at(row, at)
@@ -36,13 +31,14 @@ pub fn length_at(column: Column, row: &[u8], at: usize) -> IntRead
 }
 
 // The field of `width` bytes at `at`, after so many prefixes.
-fn bytes_at(row: &[u8], at: usize, width: usize, prefixes: usize) -> FieldRead
-    ensures { told_field result ≡ bytes_at row.now at width prefixes }
+#[tactic(auto, using(crate::proofs::Laws::bytes_short, crate::proofs::Laws::bytes_fit))]
+fn bytes_at(row: &[u8], at: usize, width: usize, prefixes: usize) -> Result<Field, Error>
+    ensures { told result ≡ bytes_at row.now at width prefixes }
 {
     if lacks(row.len(), at, width) {
-        return FieldRead::Refused(Error::short(row.len()));
+        return Err(Error::short(row.len()));
     }
-    FieldRead::Found(Field {
+    Ok(Field {
         start: at,
         end: at + width,
         prefixes,
@@ -50,25 +46,21 @@ fn bytes_at(row: &[u8], at: usize, width: usize, prefixes: usize) -> FieldRead
 }
 
 // The field of variable length whose prefix stands at `at`.
-pub fn variable_at(column: Column, row: &[u8], at: usize) -> FieldRead
-    ensures { told_field result ≡ variable_at column row.now at }
+#[tactic(auto, using(crate::proofs::Laws::variable_refused, crate::proofs::Laws::variable_long, crate::proofs::Laws::variable_bytes, crate::proofs::Laws::int_inside, crate::proofs::Laws::code_positive))]
+pub fn variable_at(column: Column, row: &[u8], at: usize) -> Result<Field, Error>
+    ensures { told result ≡ variable_at column row.now at }
 {
-    match length_at(column, row, at) {
-        IntRead::Refused(e) => FieldRead::Refused(e),
-        IntRead::Int(length) => match column.length_error(length) {
-            LengthCheck::Refused(kind) => FieldRead::Refused(Error {
-                kind,
-                offset: at,
-                input: Input::Single,
-            }),
-            LengthCheck::Allowed => bytes_at(row, at + column.prefix_size(), length, 1),
-        },
+    let length = length_at(column, row, at)?;
+    match column.length_error(length) {
+        Err(kind) => Err(Error::at(kind, at)),
+        Ok(()) => bytes_at(row, at + column.prefix_size(), length, 1),
     }
 }
 
 // The field of a present column at `at`.
-pub fn field_at(column: Column, row: &[u8], at: usize) -> FieldRead
-    ensures { told_field result ≡ field_at column row.now at }
+#[tactic(auto, using(crate::proofs::Laws::field_variable, crate::proofs::Laws::field_fixed))]
+pub fn field_at(column: Column, row: &[u8], at: usize) -> Result<Field, Error>
+    ensures { told result ≡ field_at column row.now at }
 {
     if column.is_variable() {
         variable_at(column, row, at)

@@ -10,10 +10,13 @@ const FLAGS: usize = 256;
 const MAXIMUM: usize = 65_536;
 
 // The number of a column.
+#[tactic(auto, unfolding(crate::specs::Packed::packed_column), using(crate::proofs::PackedLaws::column_of_lem))]
 pub fn pack(column: Column) -> usize
     ensures { (result ≡ packed_column column) × (result < 4294967296) × (unpacked_column result ≡ column) }
 {
-    column.code as usize + FLAGS * column.flags as usize + MAXIMUM * column.maximum as usize
+    usize::from(column.code)
+        + FLAGS * usize::from(column.flags)
+        + MAXIMUM * usize::from(column.maximum)
 }
 
 // The column in the low 32 bits of a number.

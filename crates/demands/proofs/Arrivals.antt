@@ -1,5 +1,7 @@
 -- A row section read as it arrives: from the first record on, each call answers what is written over the bytes so far, however they are cut.
 -- Assumes nothing.
+use Rattle.std.specs.Prelude.{Result}
+use Rattle.wire.specs.declared.error.Error.{Error}
 use Prim.Native.Nat.{ℕ, ◌≤◌, ◌<◌}
 use mathlib.Core.Path.{◌≡◌, refl, sym, ap, ◌∙◌}
 use mathlib.Core.List.{List, [], ◌∷◌, ◌++◌, map, map-map, append_assoc, append-nil}
@@ -10,14 +12,13 @@ use lib.Dec.{leb}
 use borrow.Author.Tests.{leb-true, leb-false, le-leb, lt-leb}
 use Rattle.wire.specs.declared.error.Input.{Input}
 use Rattle.wire.specs.declared.error.Input.TheVariants as input
-use Rattle.wire.specs.Read.{Bytes, AreBytes, Read, ok, bad, pick, about, limit, sized}
+use Rattle.wire.specs.Read.{Bytes, AreBytes, Read, ok, bad, pick, about, limit, sized, told}
 use Rattle.wire.proofs.Pieces.{bad_ok, bind_ok, about_ok}
 use Rattle.tree.specs.Schemas.{Schema, read_schemas}
 use Rattle.grammar.specs.Grammar.{Element, Row, child_kind, update_start, rows}
 use Rattle.grammar.specs.Reader.{section}
 use Rattle.grammar.proofs.Examples.{T-schemas, T-elements, T-splits}
-use Rattle.section.specs.Table.{rows_checked, row_count, told_rows}
-use Rattle.section.specs.declared.read.RowsRead.{RowsRead}
+use Rattle.section.specs.Table.{rows_checked, row_count}
 use Rattle.feeding.specs.Answers.{Answer, going, complete, refused, said, own_short, said_with, so_far, past, answer_over, answer_so_far, answer_closed, whole_rows, whole_in, whole_elements, Call, fragment, close, joined, any_close, answer_to}
 use Rattle.feeding.specs.Feeding.{first, tell, call, calls}
 use Rattle.feeding.specs.Feeding.{Reader as Standing}
@@ -282,8 +283,8 @@ module _ (file : Bytes) (bytes : AreBytes file) where
 
   -- A section that is fed whole and closed is answered as the call that checks it answers.
   pub arrival_whole :
-      (s : Bytes) (checked : RowsRead) → length s ≤ limit → told_rows checked ≡ row_count (rows_checked file s) →
-      last_answer file first_record (fragment s ∷ []) close ≡ said (told_rows checked)
+      (s : Bytes) (checked : Result ℕ Error) → length s ≤ limit → told checked ≡ row_count (rows_checked file s) →
+      last_answer file first_record (fragment s ∷ []) close ≡ said (told checked)
   unfolding joined any_close
   arrival_whole s checked h e =
       let a : Arrived (fragment s ∷ []) close s true = record { brings = append-nil s; ends = refl } in

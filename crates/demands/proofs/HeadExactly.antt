@@ -21,7 +21,6 @@ use Rattle.options.specs.declared.options.Spans.{Spans}
 use Rattle.options.specs.declared.options.Options.{Options}
 use Rattle.header.specs.Header.{signature, header_as, header_fields, header_of, header_bytes, header_written}
 use Rattle.options.specs.Options.{token, guid, async_allowed, span_from, spans_as, options_as, span_at, spans_of, async_rest, options_rest, options_sized, options_of, string_bytes, head_bytes, options_bytes, strings_size, options_size, options_written}
-use Rattle.header.proofs.Laws.{fields_short}
 use Rattle.options.proofs.Laws.{length_string, length_options}
 use Rattle.demands.specs.Checks.{Refusals, Never, ◌then◌, Exactly, Faults, Of, of, lent, Sizes, Short, NoRoom, no_room}
 use Rattle.demands.specs.HeadFaults.{Agree, ConstantFault, ends, differs, ValueFault, below, above, SizeFault, wrong_size, HeaderFaults, size_field, string_end, first_end, second_end, third_end, NotFilled, in_first, in_second, in_third, in_async, OptionsFaults, HeaderWriteFaults, OptionsWriteFaults, RefusesAs}
@@ -203,6 +202,16 @@ exactly_constants s at [] inside = exactly_check true 1 0 (λ e. absurd (true≢
 exactly_constants s at (v ∷ x) inside = constants_next s at v x inside (λ next. exactly_constants s (at + 1) x next)
 
 -- The header.
+
+-- the first three fields of a short header: whichever lacks, the error is the same
+fields_short : (s : Bytes) → length s ≤ 7 → header_fields s ≡ bad 1 (length s) input.Single
+unfolding header_fields
+fields_short s h = go (leb (length s) 5) (leb (length s) 6) refl refl
+  where
+    go : (five six : Bool) → leb (length s) 5 ≡ five → leb (length s) 6 ≡ six → header_fields s ≡ bad 1 (length s) input.Single
+    go true six e f = simp (byte_short s 5 (leb-true _ _ e))
+    go false true e f = simp (byte_fits s 5 (leb-false _ _ e), byte_short s 6 (leb-true _ _ f))
+    go false false e f = simp (byte_fits s 5 (leb-false _ _ e), byte_fits s 6 (leb-false _ _ f), byte_short s 7 h)
 
 -- the fields behind its constant bytes: nothing is refused between bytes 5 and 7
 fields_are :

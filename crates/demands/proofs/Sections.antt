@@ -1,5 +1,7 @@
 -- Demand 2: row sections and the table that a caller lends for their rows.
 -- Assumes nothing.
+use Rattle.std.specs.Prelude.{Result}
+use Rattle.wire.specs.declared.error.Error.{Error}
 use Prim.Native.Nat.{ℕ, zero, suc, ◌+◌, ◌*◌, ◌/◌, ◌≤◌, ◌<◌}
 use mathlib.Core.Path.{◌≡◌, refl, sym, ap, ◌∙◌}
 use mathlib.Core.List.{List, [], ◌∷◌, ◌++◌}
@@ -11,7 +13,7 @@ use lib.Dec.{leb}
 use borrow.Author.Tests.{leb-true, leb-false, le-leb, lt-leb}
 use Rattle.wire.specs.declared.error.Input.{Input}
 use Rattle.wire.specs.declared.error.Input.TheVariants as input
-use Rattle.wire.specs.Read.{Bytes, Read, ok, bad, ◌>>=◌, check, about, limit, sized_by, sized}
+use Rattle.wire.specs.Read.{Bytes, Read, ok, bad, ◌>>=◌, check, about, limit, sized_by, sized, told}
 use Rattle.wire.specs.Output.{put}
 use Rattle.wire.proofs.Laws.{put_fits}
 use Rattle.wire.proofs.Pieces.{bad_ok, bind_ok, ok_ok, sized_ok, about_ok}
@@ -25,8 +27,7 @@ use Rattle.grammar.specs.Reader.{section}
 use Rattle.grammar.proofs.Demand as grammar
 use Rattle.grammar.proofs.Usable.{Usable}
 use Rattle.grammar.proofs.Usable as usable
-use Rattle.section.specs.Table.{table_numbers, fitting, rows_checked, rows_listed, table_after, row_count, told_rows, Listed}
-use Rattle.section.specs.declared.read.RowsRead.{RowsRead}
+use Rattle.section.specs.Table.{table_numbers, fitting, rows_checked, rows_listed, table_after, row_count, Listed}
 use Rattle.section.proofs.Listing.{file_read}
 use Rattle.grammar.proofs.Examples.{T-schemas, T-elements, T-splits}
 use Rattle.demands.specs.Examples.{T, section_t}
@@ -119,10 +120,10 @@ count_bad (bad c o j) code offset i = (
 
 -- The same of the calls: of one file and one section the call that checks and the call that lists tell the same refusals but 16.
 module _
-    (file s : Bytes) (checked listed : RowsRead) {entry exit : List ℕ} (c : told_rows checked ≡ row_count (rows_checked file s))
+    (file s : Bytes) (checked listed : Result ℕ Error) {entry exit : List ℕ} (c : told checked ≡ row_count (rows_checked file s))
     (l : Listed (rows_listed file s (length entry)) entry exit listed)
   where
-    pub calls_agree : (code offset : ℕ) (i : Input) → (code ≡ 16 → ⊥) → told_rows checked ≡ bad code offset i ↔ told_rows listed ≡ bad code offset i
+    pub calls_agree : (code offset : ℕ) (i : Input) → (code ≡ 16 → ⊥) → told checked ≡ bad code offset i ↔ told listed ≡ bad code offset i
     calls_agree code offset i unless = (
       (λ e. l.answers ∙ (count_bad (rows_listed file s (length entry)) code offset i).1 (alike.0 ((count_bad (rows_checked file s) code offset i).0 (sym c ∙ e)))),
       (λ e. c ∙ (count_bad (rows_checked file s) code offset i).1 (alike.1 ((count_bad (rows_listed file s (length entry)) code offset i).0 (sym l.answers ∙ e)))),
@@ -132,7 +133,7 @@ module _
         alike = refused_alike file s (length entry) code offset i unless
 
     -- and the one that checks never tells 16
-    pub call_never_full : (offset : ℕ) (i : Input) → told_rows checked ≡ bad 16 offset i → ⊥
+    pub call_never_full : (offset : ℕ) (i : Input) → told checked ≡ bad 16 offset i → ⊥
     call_never_full offset i e = check_never_full file s offset i ((count_bad (rows_checked file s) 16 offset i).0 (sym c ∙ e))
 
 -- a valid file is within the limit

@@ -1,4 +1,5 @@
 pub mod Laws
+pub mod Reading
 pub mod Arrays
 pub mod Maps
 pub mod Writing

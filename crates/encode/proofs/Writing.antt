@@ -1,7 +1,8 @@
 -- The maps of a row, and the writers' ways out.
 -- Assumes nothing.
-use Prim.Native.Nat.{ℕ, zero, suc, ◌+◌, ◌*◌, ◌-◌, ◌≤◌, ◌<◌, min}
-use mathlib.Core.Path.{◌≡◌, refl, sym, ap, subst, ◌∙◌}
+use Rattle.std.specs.Prelude.{Ok, Err}
+use Prim.Native.Nat.{ℕ, zero, suc, ◌+◌, ◌*◌, ◌-◌, ◌≤◌, ◌<◌}
+use mathlib.Core.Path.{◌≡◌, refl, sym, ap, ◌∙◌}
 use mathlib.Core.List.{List, ◌++◌, append_assoc}
 use mathlib.Core.Bool.{Bool, true, false}
 use native.Mathlib.Omega.{arith}
@@ -9,22 +10,18 @@ use lib.ListN.{length, length-append}
 use borrow.Author.Tests.{le-leb, lt-leb, eq-eqb, ne_eqb}
 use Rattle.wire.specs.declared.error.Error.{Error}
 use Rattle.wire.specs.declared.error.Input.TheVariants as input
-use Rattle.wire.specs.declared.output.Written.{Written}
-use Rattle.wire.specs.declared.output.Written.TheVariants as written
 use Rattle.wire.specs.Read.{Bytes, Read, ok, bad, ◌>>=◌, check, about, refused, limit}
 use Rattle.wire.specs.Bits.{map_bytes}
 use Rattle.wire.specs.Output.{put, size_of, fitting}
 use Rattle.wire.proofs.Laws.{sized_over, sized_within, put_put, length_put, fitting_fits, fitting_not}
 use Rattle.wire.proofs.Pieces.{bad_ok, ok_ok}
 use Rattle.column.specs.declared.column.Column.{Column}
-use Rattle.column.specs.declared.columns.Columns.{Columns}
-use Rattle.column.specs.Layout.{most_columns, columns_from, columns_in}
-use Rattle.encode.specs.declared.writers.Map.TheVariants as maps
+use Rattle.encode.specs.declared.map.Map.TheVariants as maps
 use Rattle.encode.specs.Entries.{Entry, givens_from, are_entries, entries_of}
 use Rattle.encode.specs.Encoding.{pack, fields_of, update_bits, force_bits, original_bytes, update_data}
-use Rattle.encode.specs.Writers.{entries_stand, entries_in, writing, write_original, write_update, values_sized, output_with, WroteAt}
+use Rattle.encode.specs.Writers.{entries_stand, entries_in, writing, values_sized, output_with, WroteAt}
 use Rattle.encode.specs.Steps.{stands_in, row_in, maps_in, fields_size, bits_of, Laid}
-use Rattle.encode.proofs.Maps.{length_pack}
+use Rattle.encode.proofs.Pack.{length_pack}
 
 -- The maps.
 
@@ -37,10 +34,6 @@ force_count : (n i : ℕ) (numbers : List ℕ) (values : Bytes) → length (forc
 unfolding force_bits entries_of givens_from
 force_count zero i numbers values = refl
 force_count (suc n) i numbers values = ap suc (force_count n (suc i) numbers values)
-
-pack_size : (bits : List Bool) → length (pack bits) ≡ map_bytes (length bits)
-unfolding pack
-pack_size bits = length_pack (map_bytes (length bits)) bits
 
 module _ {update : Bool} (cs : List Column) where
   pub maps_update : (es : List Entry) → update ≡ true → maps_in update cs es ≡ pack (bits_of maps.Update cs es) ++ pack (bits_of maps.Force cs es)
@@ -55,8 +48,8 @@ module _ {update : Bool} (cs : List Column) where
   unfolding bits_of
   maps_two n numbers values e =
       let es : List Entry = entries_in n numbers values in
-      let u : length (pack (update_bits es)) ≡ map_bytes n = pack_size (update_bits es) ∙ ap map_bytes (update_count n 0 numbers values) in
-      let f : length (pack (force_bits es)) ≡ map_bytes n = pack_size (force_bits es) ∙ ap map_bytes (force_count n 0 numbers values) in
+      let u : length (pack (update_bits es)) ≡ map_bytes n = length_pack (update_bits es) ∙ ap map_bytes (update_count n 0 numbers values) in
+      let f : length (pack (force_bits es)) ≡ map_bytes n = length_pack (force_bits es) ∙ ap map_bytes (force_count n 0 numbers values) in
       ap length (maps_update es e) ∙ length-append (pack (update_bits es)) (pack (force_bits es)) ∙ omega (arith, u, f)
 
 -- one piece behind another
@@ -93,19 +86,17 @@ row_laid update cs es place out {laid} {exit} {r} h m e =
 pub record Task : Type 0 where
   pub update : Bool
   pub columns : List Column
-  pub n : ℕ
-  pub count : length columns ≡ n
   pub numbers : List ℕ
   pub values : Bytes
   pub out : Bytes
   pub place : ℕ
 
 abbrev pub entries : Task → List Entry
-entries t = entries_in t.n t.numbers t.values
+entries t = entries_in (length t.columns) t.numbers t.values
 
--- the row, or the error
+-- the row, or the error, with values of allowed size
 abbrev pub answer : Task → Read Bytes
-answer t = values_sized t.values (writing (stands_in t.update) (row_in t.update) t.columns t.numbers t.values (length t.out) t.place)
+answer t = writing (stands_in t.update) (row_in t.update) t.columns t.numbers t.values (length t.out) t.place
 
 -- its maps, its fields, and their sizes where every entry can stand
 abbrev pub maps_of : Task → Bytes
@@ -119,37 +110,33 @@ sizes_of t = fields_size (stands_in t.update) t.columns (entries t)
 
 -- The writer's ways out: where each check fails, and where all hold.
 
-values_within : (values : Bytes) (w : Read Bytes) → length values ≤ limit → values_sized values w ≡ w
+pub values_within : (values : Bytes) (w : Read Bytes) → length values ≤ limit → values_sized values w ≡ w
 unfolding values_sized about
 values_within values w h = rw (sized_within values h) refl
 
+pub values_over : (values : Bytes) (w : Read Bytes) → limit < length values → values_sized values w ≡ bad 19 0 input.Values
+unfolding values_sized about
+values_over values w h = rw (sized_over values h) refl
+
 module _ (t : Task) where
-  pub values_over : limit < length t.values → answer t ≡ bad 19 0 input.Values
-  unfolding values_sized about
-  values_over h = rw (sized_over t.values h) refl
+  pub place_outside : length t.out < t.place → answer t ≡ bad 18 0 input.Place
+  unfolding writing check about
+  place_outside h = rw (lt-leb t.place (length t.out) h) refl
 
-  module _ (w : length t.values ≤ limit) where
-    pub place_outside : length t.out < t.place → answer t ≡ bad 18 0 input.Place
+  module _ (p : t.place ≤ length t.out) where
+    pub entries_miscounted : (length t.numbers ≡ 3 * length t.columns → ⊥) → answer t ≡ bad 18 0 input.Entries
     unfolding writing check about
-    place_outside h = values_within t.values _ w ∙ rw (lt-leb t.place (length t.out) h) refl
+    entries_miscounted h = rw (le-leb t.place (length t.out) p, ne_eqb (length t.numbers) (3 * length t.columns) h) refl
 
-    module _ (p : t.place ≤ length t.out) where
-      pub entries_miscounted : (length t.numbers ≡ 3 * t.n → ⊥) → answer t ≡ bad 18 0 input.Entries
-      unfolding writing check about
-      entries_miscounted h =
-          values_within t.values _ w ∙ rw (le-leb t.place (length t.out) p, t.count, ne_eqb (length t.numbers) (3 * t.n) h) refl
-
-      pub entries_none : length t.numbers ≡ 3 * t.n → are_entries t.values (givens_from t.n 0 t.numbers) ≡ false → answer t ≡ bad 18 0 input.Entries
-      unfolding writing check about
-      entries_none l h =
-          values_within t.values _ w ∙ rw (le-leb t.place (length t.out) p, t.count, eq-eqb (length t.numbers) (3 * t.n) l, h) refl
+    pub entries_none : length t.numbers ≡ 3 * length t.columns → are_entries t.values (givens_from (length t.columns) 0 t.numbers) ≡ false → answer t ≡ bad 18 0 input.Entries
+    unfolding writing check about
+    entries_none l h = rw (le-leb t.place (length t.out) p, eq-eqb (length t.numbers) (3 * length t.columns) l, h) refl
 
 -- All checks before the entries' standing hold.
 pub record Checked (t : Task) : Type 0 where
-  pub within : length t.values ≤ limit
   pub inside : t.place ≤ length t.out
-  pub counted : length t.numbers ≡ 3 * t.n
-  pub are : are_entries t.values (givens_from t.n 0 t.numbers) ≡ true
+  pub counted : length t.numbers ≡ 3 * length t.columns
+  pub are : are_entries t.values (givens_from (length t.columns) 0 t.numbers) ≡ true
 
 module _ (t : Task) (k : Checked t) where
   abbrev standing : Read (Unit {0})
@@ -164,8 +151,7 @@ module _ (t : Task) (k : Checked t) where
   checked : answer t ≡ (standing >>= λ _. fitting row capacity)
   unfolding writing check about
   checked =
-      values_within t.values _ k.within
-      ∙ rw (le-leb t.place (length t.out) k.inside, t.count, eq-eqb (length t.numbers) (3 * t.n) k.counted, k.are) refl
+      rw (le-leb t.place (length t.out) k.inside, eq-eqb (length t.numbers) (3 * length t.columns) k.counted, k.are) refl
 
   -- an entry can't stand
   pub entry_refused : (e : Error) → refused e ≡ sizes_of t → answer t ≡ refused e
@@ -207,7 +193,7 @@ module _ (t : Task) (k : Checked t) where
               let n : length laid ≡ length t.out = ap length d.leaves ∙ length_put t.out t.place (maps_of t) in
               omega (arith, n, k.inside, l, g, fields_sized, d.answers)
 
-          pub row_written : {exit : Bytes} → exit ≡ put laid (t.place + r) (fields_in t) → WroteAt (answer t) t.place t.out exit (written.Bytes (m + f))
+          pub row_written : {exit : Bytes} → exit ≡ put laid (t.place + r) (fields_in t) → WroteAt (answer t) t.place t.out exit (Ok (m + f))
           unfolding size_of output_with
           row_written {exit} e =
               let o : answer t ≡ ok row = fitted ∙ fitting_fits row capacity (omega (arith, l, sized_row)) in
@@ -218,22 +204,6 @@ module _ (t : Task) (k : Checked t) where
               }
 
 -- after an error all is as it was
-pub row_refused : (t : Task) (e : Error) → answer t ≡ refused e → WroteAt (answer t) t.place t.out t.out (written.Refused e)
+pub row_refused : (w : Read Bytes) (place : ℕ) (out : Bytes) (e : Error) → w ≡ refused e → WroteAt w place out out (Err e)
 unfolding size_of output_with
-row_refused t e h = record { answers = ap size_of (sym h); leaves = ap (λ (q : Read Bytes). output_with q t.place t.out) (sym h) }
-
--- The two writers, with as many columns as their arrays have.
-module _ (c : Columns) {n : ℕ} (e : n ≡ min c.count most_columns) (numbers : List ℕ) (values out : Bytes) (place : ℕ) {exit : Bytes} {r : Written} where
-  pub original_written :
-      WroteAt (values_sized values (writing (stands_in false) (row_in false) (columns_from n 0 c.codes c.flags c.maxima) numbers values (length out) place)) place out exit r →
-      WroteAt (values_sized values (write_original (columns_in c) numbers values (length out) place)) place out exit r
-  unfolding write_original
-  original_written h =
-      subst (λ (k : ℕ). WroteAt (values_sized values (writing (stands_in false) (row_in false) (columns_from k 0 c.codes c.flags c.maxima) numbers values (length out) place)) place out exit r) e h
-
-  pub update_written :
-      WroteAt (values_sized values (writing (stands_in true) (row_in true) (columns_from n 0 c.codes c.flags c.maxima) numbers values (length out) place)) place out exit r →
-      WroteAt (values_sized values (write_update (columns_in c) numbers values (length out) place)) place out exit r
-  unfolding write_update
-  update_written h =
-      subst (λ (k : ℕ). WroteAt (values_sized values (writing (stands_in true) (row_in true) (columns_from k 0 c.codes c.flags c.maxima) numbers values (length out) place)) place out exit r) e h
+row_refused w place out e h = record { answers = ap size_of (sym h); leaves = ap (λ (q : Read Bytes). output_with q place out) (sym h) }

@@ -3,3 +3,4 @@ pub mod Encoding
 pub mod Writers
 pub mod Trips
 pub mod Steps
+pub mod Rows

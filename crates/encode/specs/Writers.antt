@@ -1,10 +1,10 @@
 -- Promise: the two row writers: their checks in the paper's order, the row, and what the output then holds.
 -- Assumes nothing.
-use Rattle.std.specs.Prelude.{ℕ, suc, ◌*◌, ◌-◌, ◌^◌, ◌≡◌, List, [], ◌∷◌, Bool, true, false, length, leb, ltb, eqb}
+use Rattle.std.specs.Prelude.{ℕ, suc, ◌*◌, ◌-◌, ◌^◌, ◌≡◌, List, [], ◌∷◌, Bool, true, false, length, leb, ltb, eqb, Result}
+use Rattle.wire.specs.declared.error.Error.{Error}
 use Rattle.wire.specs.declared.error.Input.TheVariants as input
-use Rattle.wire.specs.declared.output.Written.{Written}
-use Rattle.wire.specs.Read.{Bytes, Read, ok, bad, ◌>>=◌, pick, check, about, sized}
-use Rattle.wire.specs.Output.{put, size_of, fitting, told_written}
+use Rattle.wire.specs.Read.{Bytes, Read, ok, bad, ◌>>=◌, pick, check, about, sized, told}
+use Rattle.wire.specs.Output.{put, size_of, fitting}
 use Rattle.column.specs.declared.column.Column.{Column}
 use Rattle.column.specs.Columns.{width, is_variable, is_chapter, is_nullable, prefix_size, length_error}
 use Rattle.encode.specs.Entries.{Entry, value, null, unchanged, givens_from, are_entries, entries_of}
@@ -72,6 +72,6 @@ output_with (ok row) place out = put out place row
 output_with (bad code offset about) place out = out
 
 -- What a row writer promises: the size of the row or the error, and what the output then holds.
-pub record WroteAt (row : Read Bytes) (place : ℕ) (entry exit : Bytes) (answer : Written) : Type 0 where
-  pub answers : told_written answer ≡ size_of row
+pub record WroteAt (row : Read Bytes) (place : ℕ) (entry exit : Bytes) (answer : Result ℕ Error) : Type 0 where
+  pub answers : told answer ≡ size_of row
   pub leaves : exit ≡ output_with row place entry

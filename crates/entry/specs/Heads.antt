@@ -1,15 +1,15 @@
 -- Promise: the numbers of one column up to a nested schema, by offsets into the whole input, as code reads them.
 -- Assumes nothing.
-use Rattle.std.specs.Prelude.{ℕ}
+use Rattle.std.specs.Prelude.{ℕ, length, get_or, ltb, Result, Ok, Err}
+use Rattle.entry.specs.declared.number.Number.{Number}
+use Rattle.wire.specs.declared.error.Error.{Error}
+use Rattle.entry.specs.declared.head.ColumnHead.{ColumnHead}
 use Rattle.wire.specs.declared.error.Input.TheVariants.{Single}
-use Rattle.wire.specs.Read.{Bytes, Read, ok, bad, ◌>>=◌, refused}
+use Rattle.wire.specs.Read.{Bytes, Read, ok, bad, ◌>>=◌, check, refused}
 use Rattle.column.specs.declared.types.Kind.{Kind}
 use Rattle.column.specs.declared.types.Kind.TheVariants.{Fixed, Variable, Wide, Chapter, Unknown}
 use Rattle.column.specs.Types.{kind_of}
-use Rattle.entry.specs.declared.number.NumberRead.{NumberRead}
-use Rattle.entry.specs.declared.number.NumberRead.TheVariants as number
-use Rattle.entry.specs.declared.head.HeadRead.{HeadRead}
-use Rattle.entry.specs.declared.head.HeadRead.TheVariants as head
+use Rattle.entry.specs.declared.head.ColumnHead.TheVariants as head
 use Rattle.tree.specs.Numbers.{Found, found, number_at}
 use Rattle.tree.specs.Tree.{most_flags, most_maximum}
 use Rattle.tree.specs.Filling.{range_at}
@@ -51,11 +51,19 @@ head_at b at = do
   head_by (kind_of code.value) b code.value at code.at
 
 -- what the answers say
-abbrev pub told_number : NumberRead → Read Found
-told_number (number.Number value end) = ok (found value end)
-told_number (number.Refused e) = refused e
+abbrev pub told_number : Result Number Error → Read Found
+told_number (Ok n) = ok (found n.value n.end)
+told_number (Err e) = refused e
 
-abbrev pub told_head : HeadRead → Read Head
-told_head (head.Field code maximum flags end) = ok (field_head code flags maximum end)
-told_head (head.Chapter flags id id_at end) = ok (id_head flags id id_at end)
-told_head (head.Refused e) = refused e
+abbrev pub told_head : Result ColumnHead Error → Read Head
+told_head (Ok (head.Field c end)) = ok (field_head c.code c.flags c.maximum end)
+told_head (Ok (head.Chapter flags id id_at end)) = ok (id_head flags id id_at end)
+told_head (Err e) = refused e
+
+-- Inner.
+
+-- the byte at `at`, or error 1 at the length of the input
+unfoldable pub group_at : Bytes → ℕ → Read ℕ
+group_at b at = do
+  _ ← check (ltb at (length b)) 1 (length b)
+  ok (get_or b at 0)

@@ -2,116 +2,89 @@
 ghost use Rattle.std.specs.Prelude.{◌≡◌};
 ghost use Rattle.entry.specs.Heads.{fixed_head, variable_head, chapter_head, head_at, told_head};
 
-use crate::number::{NumberRead, number_at, range_at};
+use crate::number::{Number, number_at, range_at};
 use crate::{MOST_FLAGS, MOST_MAXIMUM};
+use column::column::Column;
 use column::types::{ColumnType, Kind};
 use wire::error::{Error, ErrorKind, Input};
 
-// The numbers of a column that was read. Of a chapter: where its id stands, which may be one seen before. The flags of a field stand where an
-// error has its input, and are as small: else that number is stored in pieces, and whoever loads it whole must wait.
+// The numbers of a column that was read. Of a chapter: where its id stands, which may be one seen before.
 #[derive(Clone, Copy)]
-pub enum HeadRead {
+pub enum ColumnHead {
     Field {
-        code: usize,
-        maximum: usize,
-        flags: u8,
+        column: Column,
         end: usize,
     },
     Chapter {
-        flags: usize,
+        flags: u8,
         id: usize,
         id_at: usize,
         end: usize,
     },
-    Refused(Error),
 }
 
 // A column of fixed width, behind its code.
-fn fixed_head(file: &[u8], code: usize, at: usize) -> HeadRead
+#[tactic(auto, unfolding(crate::specs::Heads::fixed_head), using(crate::proofs::Heads::range_inside))]
+fn fixed_head(file: &[u8], code: u8, at: usize) -> Result<ColumnHead, Error>
     ensures { told_head result ≡ fixed_head file.now code at }
 {
-    match range_at(file, at, 0, MOST_FLAGS) {
-        NumberRead::Refused(e) => HeadRead::Refused(e),
-        NumberRead::Number { value, end } => HeadRead::Field {
+    let flags = range_at(file, at, 0, MOST_FLAGS)?;
+    Ok(ColumnHead::Field {
+        column: Column {
             code,
+            flags: flags.value as u8,
             maximum: 0,
-            flags: value as u8,
-            end,
         },
-    }
+        end: flags.end,
+    })
 }
 
 // A column of variable length, behind its code.
-fn variable_head(file: &[u8], code: usize, at: usize) -> HeadRead
+#[tactic(auto, unfolding(crate::specs::Heads::variable_head), using(crate::proofs::Heads::range_inside))]
+fn variable_head(file: &[u8], code: u8, at: usize) -> Result<ColumnHead, Error>
     ensures { told_head result ≡ variable_head file.now code at }
 {
-    match range_at(file, at, 0, MOST_FLAGS) {
-        NumberRead::Refused(e) => HeadRead::Refused(e),
-        NumberRead::Number {
-            value: flags,
-            end: after,
-        } => match range_at(file, after, 1, MOST_MAXIMUM) {
-            NumberRead::Refused(e) => HeadRead::Refused(e),
-            NumberRead::Number {
-                value: maximum,
-                end,
-            } => HeadRead::Field {
-                code,
-                maximum,
-                flags: flags as u8,
-                end,
-            },
+    let flags = range_at(file, at, 0, MOST_FLAGS)?;
+    let maximum = range_at(file, flags.end, 1, MOST_MAXIMUM)?;
+    Ok(ColumnHead::Field {
+        column: Column {
+            code,
+            flags: flags.value as u8,
+            maximum: maximum.value as u16,
         },
-    }
+        end: maximum.end,
+    })
 }
 
 // A chapter, behind its code.
-fn chapter_head(file: &[u8], at: usize) -> HeadRead
+#[tactic(auto, unfolding(crate::specs::Heads::chapter_head), using(crate::proofs::Heads::range_inside))]
+fn chapter_head(file: &[u8], at: usize) -> Result<ColumnHead, Error>
     ensures { told_head result ≡ chapter_head file.now at }
 {
-    match range_at(file, at, 0, MOST_FLAGS) {
-        NumberRead::Refused(e) => HeadRead::Refused(e),
-        NumberRead::Number {
-            value: flags,
-            end: after,
-        } => match number_at(file, after) {
-            NumberRead::Refused(e) => HeadRead::Refused(e),
-            NumberRead::Number { value: id, end } => HeadRead::Chapter {
-                flags,
-                id,
-                id_at: after,
-                end,
-            },
-        },
-    }
+    let flags = range_at(file, at, 0, MOST_FLAGS)?;
+    let id = number_at(file, flags.end)?;
+    Ok(ColumnHead::Chapter {
+        flags: flags.value as u8,
+        id: id.value,
+        id_at: flags.end,
+        end: id.end,
+    })
 }
 
 // The column whose type code stands at `at`.
-pub fn head_at(file: &[u8], at: usize) -> HeadRead
+#[tactic(auto, unfolding(crate::specs::Heads::head_at, crate::specs::Heads::head_by), using(crate::proofs::Heads::unknown_code))]
+pub fn head_at(file: &[u8], at: usize) -> Result<ColumnHead, Error>
     ensures { told_head result ≡ head_at file.now at }
 {
-    match number_at(file, at) {
-        NumberRead::Refused(e) => HeadRead::Refused(e),
-        NumberRead::Number { value: code, end } => {
-            if 255 < code {
-                return HeadRead::Refused(Error {
-                    kind: ErrorKind::Range,
-                    offset: at,
-                    input: Input::Single,
-                });
-            }
-            let column_type = ColumnType { code: code as u8 };
-            match column_type.kind() {
-                Kind::Fixed(_) => fixed_head(file, code, end),
-                Kind::Variable => variable_head(file, code, end),
-                Kind::Wide => variable_head(file, code, end),
-                Kind::Chapter => chapter_head(file, end),
-                Kind::Unknown => HeadRead::Refused(Error {
-                    kind: ErrorKind::Range,
-                    offset: at,
-                    input: Input::Single,
-                }),
-            }
-        }
+    let Number { value, end } = number_at(file, at)?;
+    let Ok(code) = u8::try_from(value) else {
+        return Err(Error::at(ErrorKind::Range, at));
+    };
+    let column_type = ColumnType { code };
+    match column_type.kind() {
+        Kind::Fixed(_) => fixed_head(file, code, end),
+        Kind::Variable | Kind::Wide => variable_head(file, code, end),
+        Kind::Chapter => chapter_head(file, end),
+        Kind::Unknown => Err(Error::at(ErrorKind::Range, at)),
     }
 }

@@ -1,6 +1,6 @@
 // Examples of schema files.
-use crate::head::{show_error, show_number};
-use questions::file::{CountsRead, count_file};
+use crate::head::show_error;
+use questions::file::{Counts, count_file};
 use std::io;
 
 // Prints a line for each.
@@ -14,14 +14,10 @@ pub fn run(rt: &impl Print) -> io::Result<()> {
 }
 
 fn show_counts(rt: &impl Print, name: &str, file: &[u8]) -> io::Result<()> {
-    print!(rt; "{name}")?;
     match count_file(file) {
-        CountsRead::Refused(e) => show_error(rt, e),
-        CountsRead::Counts { schemas, columns } => {
-            show_number(rt, schemas)?;
-            print!(rt; " schemas, ")?;
-            show_number(rt, columns)?;
-            println!(rt; " columns")
+        Err(e) => show_error(rt, name, e),
+        Ok(Counts { schemas, columns }) => {
+            println!(rt; "{name}{schemas} schemas, {columns} columns")
         }
     }
 }

@@ -1,6 +1,6 @@
 // Examples of header and handler options.
-use header::header::{HeaderRead, read_header};
-use options::options::{OptionsRead, Span, read_options};
+use header::header::read_header;
+use options::options::read_options;
 use std::io;
 use wire::error::Error;
 
@@ -21,61 +21,29 @@ pub fn run(rt: &impl Print) -> io::Result<()> {
 }
 
 fn show_header(rt: &impl Print, name: &str, bytes: &[u8]) -> io::Result<()> {
-    print!(rt; "{name}")?;
     match read_header(bytes) {
-        HeaderRead::Refused(e) => show_error(rt, e),
-        HeaderRead::Read(h) => {
-            print!(rt; "version ")?;
-            show_number(rt, h.major)?;
-            print!(rt; ".")?;
-            show_number(rt, h.minor)?;
-            print!(rt; ", unicode ")?;
-            show_number(rt, h.unicode)?;
-            print!(rt; ", ends at ")?;
-            show_number(rt, h.end)?;
-            println!(rt)
-        }
+        Err(e) => show_error(rt, name, e),
+        Ok(h) => println!(rt;
+            "{name}version {}.{}, unicode {}, ends at {}",
+            h.major, h.minor, h.unicode, h.end
+        ),
     }
 }
 
 fn show_options(rt: &impl Print, name: &str, bytes: &[u8]) -> io::Result<()> {
-    print!(rt; "{name}")?;
     match read_options(bytes) {
-        OptionsRead::Refused(e) => show_error(rt, e),
-        OptionsRead::Read(o) => {
-            let strings = o.strings;
-            print!(rt; "update ")?;
-            show_number(rt, o.update)?;
-            show_span(rt, strings.first)?;
-            show_span(rt, strings.second)?;
-            show_span(rt, strings.third)?;
-            print!(rt; ", async ")?;
-            show_number(rt, o.asynchronous)?;
-            print!(rt; ", ends at ")?;
-            show_number(rt, o.end)?;
-            println!(rt)
+        Err(e) => show_error(rt, name, e),
+        Ok(o) => {
+            print!(rt; "{name}update {}", o.update)?;
+            for string in [o.strings.first, o.strings.second, o.strings.third] {
+                print!(rt; ", {} to {}", string.start, string.end)?;
+            }
+            println!(rt; ", async {}, ends at {}", o.asynchronous, o.end)
         }
     }
 }
 
-fn show_span(rt: &impl Print, x: Span) -> io::Result<()> {
-    print!(rt; ", ")?;
-    show_number(rt, x.start)?;
-    print!(rt; " to ")?;
-    show_number(rt, x.end)
-}
-
-// An error in the paper's form.
-pub fn show_error(rt: &impl Print, e: Error) -> io::Result<()> {
-    let kind = e.kind;
-    print!(rt; "refused ")?;
-    show_number(rt, kind.code() as usize)?;
-    print!(rt; " at ")?;
-    show_number(rt, e.offset)?;
-    println!(rt)
-}
-
-// Prints a number.
-pub fn show_number(rt: &impl Print, n: usize) -> io::Result<()> {
-    print!(rt; "{n}")
+// The name of an example, and an error in the paper's form.
+pub fn show_error(rt: &impl Print, name: &str, e: Error) -> io::Result<()> {
+    println!(rt; "{name}refused {} at {}", e.kind.code(), e.offset)
 }

@@ -1,5 +1,5 @@
 // Examples of rows under sheet S of the paper.
-use crate::head::{show_error, show_number};
+use crate::head::show_error;
 use adtg::rows::look_up;
 use row::rows::LookUp;
 use std::io;
@@ -20,18 +20,12 @@ pub fn run(rt: &impl Print) -> io::Result<()> {
 
 // Column 1 of a row under S.
 fn show_text(rt: &impl Print, name: &str, row: &[u8]) -> io::Result<()> {
-    print!(rt; "{name}")?;
     match look_up(b"\x03\x03\x00\x82\x01\x01\x0A\x11\x01", 0, row, 1) {
-        LookUp::Refused(e) => show_error(rt, e),
-        LookUp::Found(f) => {
-            show_number(rt, f.start)?;
-            print!(rt; " to ")?;
-            show_number(rt, f.end)?;
-            print!(rt; ", prefixes ")?;
-            show_number(rt, f.prefixes)?;
-            println!(rt)
+        Err(e) => show_error(rt, name, e),
+        Ok(LookUp::Found(f)) => {
+            println!(rt; "{name}{} to {}, prefixes {}", f.start, f.end, f.prefixes)
         }
-        LookUp::Null => println!(rt; "null"),
-        LookUp::Chapter => println!(rt; "chapter"),
+        Ok(LookUp::Null) => println!(rt; "{name}null"),
+        Ok(LookUp::Chapter) => println!(rt; "{name}chapter"),
     }
 }

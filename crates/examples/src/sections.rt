@@ -1,8 +1,7 @@
 // Examples of row sections.
-use crate::head::{show_error, show_number};
+use crate::head::show_error;
 use section::check::check_section;
 use section::list::list_section;
-use section::read::RowsRead;
 use std::io;
 
 // Prints a line for each.
@@ -29,37 +28,22 @@ pub fn run(rt: &impl Print) -> io::Result<()> {
 
 // How many rows a section has.
 fn count_rows(rt: &impl Print, name: &str, file: &[u8], section: &[u8]) -> io::Result<()> {
-    print!(rt; "{name}")?;
     match check_section(file, section) {
-        RowsRead::Refused(e) => show_error(rt, e),
-        RowsRead::Rows(n) => {
-            show_number(rt, n)?;
-            println!(rt; " rows")
-        }
+        Err(e) => show_error(rt, name, e),
+        Ok(n) => println!(rt; "{name}{n} rows"),
     }
-}
-
-// A number of a table.
-fn show_entry(rt: &impl Print, n: u32) -> io::Result<()> {
-    show_number(rt, n as usize)
 }
 
 // The second of a section's two rows, as the table has it.
 fn show_second(rt: &impl Print, name: &str, file: &[u8], section: &[u8]) -> io::Result<()> {
-    print!(rt; "{name}")?;
     let mut table = [0u32; 8];
     match list_section(file, section, &mut table) {
-        RowsRead::Refused(e) => show_error(rt, e),
-        RowsRead::Rows(n) => {
-            print!(rt; "kind ")?;
-            show_entry(rt, table[4])?;
-            print!(rt; ", child id ")?;
-            show_entry(rt, table[5])?;
-            print!(rt; ", original at ")?;
-            show_entry(rt, table[6])?;
-            print!(rt; ", update at ")?;
-            show_entry(rt, table[7])?;
-            println!(rt)
+        Err(e) => show_error(rt, name, e),
+        Ok(_) => {
+            let [_, _, _, _, kind, child, original, update] = table;
+            println!(rt;
+                "{name}kind {kind}, child id {child}, original at {original}, update at {update}"
+            )
         }
     }
 }

@@ -2,11 +2,9 @@
 -- Assumes nothing.
 use Rattle.std.specs.Prelude.{ℕ, [], ◌∷◌, ◌++◌, leb, eqb}
 use Rattle.wire.specs.declared.error.Input.TheVariants as input
-use Rattle.wire.specs.Read.{Bytes, Read, ok, ◌>>=◌, check, about, refused, sized, byte_at, constants}
+use Rattle.wire.specs.Read.{Bytes, Read, ok, ◌>>=◌, check, about, sized, byte_at, constants}
 use Rattle.wire.specs.Output.{fitting}
 use Rattle.header.specs.declared.header.Header.{Header}
-use Rattle.header.specs.declared.header.HeaderRead.{HeaderRead}
-use Rattle.header.specs.declared.header.HeaderRead.TheVariants as header
 
 -- 01; 07; "TG!"
 abbrev pub signature : Bytes
@@ -44,8 +42,3 @@ header_written major minor order unicode capacity = do
   _ ← about input.Order (check (eqb order 0) 3 7)
   _ ← about input.Unicode (check (leb unicode 1) 3 8)
   fitting (header_bytes major minor order unicode) capacity
-
--- what a `HeaderRead` says
-abbrev pub told_header : HeaderRead → Read Header
-told_header (header.Read h) = ok h
-told_header (header.Refused e) = refused e

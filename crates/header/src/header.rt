@@ -1,13 +1,13 @@
 // The header of a tablegram (adtgHeader): nine bytes.
 ghost use Rattle.std.specs.Prelude.{◌≡◌, length};
+ghost use Rattle.wire.specs.Read.{told};
 ghost use Rattle.wire.specs.Output.{Wrote};
-ghost use Rattle.header.specs.Header.{header_of, header_fields, header_written, told_header};
+ghost use Rattle.header.specs.Header.{header_of, header_fields, header_written};
 
 use wire::LIMIT;
-use wire::bytes::{Matched, copy_into, match_at};
+use wire::bytes::{copy_into, match_at};
 use wire::error::{Error, ErrorKind, Input};
-use wire::integer::wide;
-use wire::output::Written;
+use wire::integer::u8_at;
 
 // The constant bytes that a header starts with: a token, the size of what follows, "TG!".
 pub const SIGNATURE: [u8; 5] = [0x01, 0x07, 0x54, 0x47, 0x21];
@@ -22,94 +22,83 @@ pub struct Header {
     pub end: usize,
 }
 
-// A header that was read.
-#[derive(Clone, Copy)]
-pub enum HeaderRead {
-    Read(Header),
-    Refused(Error),
-}
-
 // The header at the start of `s`.
-pub fn read_header(s: &[u8]) -> HeaderRead
-    ensures { told_header result ≡ header_of s.now }
+#[tactic(auto, unfolding(crate::specs::Header::header_of), using(wire::proofs::Laws::sized_over, wire::proofs::Laws::sized_within))]
+pub fn read_header(s: &[u8]) -> Result<Header, Error>
+    ensures { told result ≡ header_of s.now }
 {
     if LIMIT < s.len() {
-        return HeaderRead::Refused(Error::at_start(ErrorKind::TooLarge, Input::Single));
+        return Err(Error::at_start(ErrorKind::TooLarge, Input::Single));
     }
-    match match_at(s, 0, &SIGNATURE) {
-        Matched::Refused(e) => HeaderRead::Refused(e),
-        Matched::Same => read_fields(s),
-    }
+    match_at(s, 0, &SIGNATURE)?;
+    read_fields(s)
 }
 
 // What stands after the signature: the versions, the byte order and the unicode mark.
-fn read_fields(s: &[u8]) -> HeaderRead
-    ensures { told_header result ≡ header_fields s.now }
+#[tactic(auto, unfolding(crate::specs::Header::header_fields, wire::specs::Read::check), using(wire::proofs::Laws::byte_int))]
+fn read_fields(s: &[u8]) -> Result<Header, Error>
+    ensures { told result ≡ header_fields s.now }
 {
-    if s.len() <= 7 {
-        return HeaderRead::Refused(Error::short(s.len()));
-    }
-    let order = wide(s[7]);
+    let major = u8_at(s, 5)?;
+    let minor = u8_at(s, 6)?;
+    let order = u8_at(s, 7)?;
     if order != 0 {
-        return HeaderRead::Refused(Error {
-            kind: ErrorKind::Value,
-            offset: 7,
-            input: Input::Single,
-        });
+        return Err(Error::at(ErrorKind::Value, 7));
     }
-    if s.len() <= 8 {
-        return HeaderRead::Refused(Error::short(s.len()));
-    }
-    let unicode = wide(s[8]);
+    let unicode = u8_at(s, 8)?;
     if 1 < unicode {
-        return HeaderRead::Refused(Error {
-            kind: ErrorKind::Value,
-            offset: 8,
-            input: Input::Single,
-        });
+        return Err(Error::at(ErrorKind::Value, 8));
     }
-    HeaderRead::Read(Header {
-        major: wide(s[5]),
-        minor: wide(s[6]),
+    Ok(Header {
+        major,
+        minor,
         order,
         unicode,
         end: 9,
     })
 }
 
-// Writes a header at the start of `out`.
-pub fn write_header(major: u8, minor: u8, order: u8, unicode: u8, out: &mut [u8]) -> Written
-    ensures { Wrote (header_written major minor order unicode (length out.old)) out.old out.new result }
+// The bytes of a header, where its values are allowed and an output of so many bytes has room for them.
+#[tactic(auto, unfolding(crate::specs::Header::header_written, wire::specs::Read::check, wire::specs::Read::about), using(wire::proofs::Laws::fitting_fits, wire::proofs::Laws::fitting_not))]
+fn make_header(
+    major: u8,
+    minor: u8,
+    order: u8,
+    unicode: u8,
+    capacity: usize,
+) -> Result<[u8; 9], Error>
+    ensures { told result ≡ header_written major minor order unicode capacity }
 {
     if order != 0 {
-        return Written::Refused(Error {
-            kind: ErrorKind::Value,
-            offset: 7,
-            input: Input::Order,
-        });
+        return Err(Error::at(ErrorKind::Value, 7).about(Input::Order));
     }
     if 1 < unicode {
-        return Written::Refused(Error {
-            kind: ErrorKind::Value,
-            offset: 8,
-            input: Input::Unicode,
-        });
+        return Err(Error::at(ErrorKind::Value, 8).about(Input::Unicode));
     }
-    if out.len() < 9 {
-        return Written::Refused(Error {
-            kind: ErrorKind::Capacity,
-            offset: 9,
-            input: Input::Output,
-        });
+    if capacity < 9 {
+        return Err(Error::at(ErrorKind::Capacity, 9).about(Input::Output));
     }
-    let fields = [major, minor, order, unicode];
-    copy_into(out, 0, &SIGNATURE);
-    copy_into(out, 5, &fields);
-    Written::Bytes(9)
+    let [token, size, t, g, mark] = SIGNATURE;
+    Ok([token, size, t, g, mark, major, minor, order, unicode])
+}
+
+// Writes a header at the start of `out`.
+pub fn write_header(
+    major: u8,
+    minor: u8,
+    order: u8,
+    unicode: u8,
+    out: &mut [u8],
+) -> Result<usize, Error>
+    ensures { Wrote (header_written major minor order unicode (length out.old)) out.old out.new result }
+{
+    let bytes = make_header(major, minor, order, unicode, out.len())?;
+    copy_into(out, 0, &bytes);
+    Ok(9)
 }
 
 // Writes a header of the two versions, with byte order 0 and unicode 0.
-pub fn write_header_short(major: u8, minor: u8, out: &mut [u8]) -> Written
+pub fn write_header_short(major: u8, minor: u8, out: &mut [u8]) -> Result<usize, Error>
     ensures { Wrote (header_written major minor 0 0 (length out.old)) out.old out.new result }
 {
     write_header(major, minor, 0, 0, out)

@@ -1,33 +1,44 @@
 -- The calls of a reader: what a record says, what a call makes of it, and how far a fragment is taken in.
 -- Assumes nothing.
-use Prim.Native.Nat.{ℕ, ◌+◌, ◌-◌, ◌≤◌, ◌<◌}
+use Rattle.std.specs.Prelude.{Result, Ok, Err, IsErrAnd}
+use mathlib.Core.Logic.{◌⊎◌, inl, inr}
+use Prim.Native.Nat.{ℕ, ◌+◌, ◌-◌, ◌≤◌, ◌<◌, min}
 use mathlib.Core.List.{List, [], ◌∷◌}
 use mathlib.Core.Bool.{Bool, true, false}
-use mathlib.Core.Path.{◌≡◌, refl, sym, ap, ◌∙◌}
+use mathlib.Core.Path.{◌≡◌, refl, sym, ap, subst, ◌∙◌}
 use native.Mathlib.Omega.{arith}
 use lib.ListN.{length, take}
-use lib.Seq.{length-take-le}
+use lib.Seq.{length-take-le, take_all}
 use lib.Dec.{leb, ltb, eqb}
-use borrow.Author.Tests.{eq-eqb, ne_eqb, le-leb, lt-ltb, le-ltb, leb-true, leb-false, ltb-true, eqb-true, eqb-false}
+use borrow.Author.Tests.{eq-eqb, ne_eqb, le-leb, lt-ltb, le-ltb, lt-leb, leb-true, leb-false, ltb-true, eqb-true, eqb-false}
 use Rattle.wire.specs.declared.error.Error.{Error}
+use Rattle.wire.specs.declared.error.ErrorKind.{ErrorKind}
+use Rattle.wire.specs.declared.error.ErrorKind.TheVariants as kind
 use Rattle.wire.specs.declared.error.Input.{Input}
 use Rattle.wire.specs.declared.error.Input.TheVariants as input
-use Rattle.wire.specs.Errors.{code_of, input_number}
-use Rattle.wire.specs.Read.{Bytes, ok, bad, pick, about, limit, refused}
+use Rattle.wire.specs.Errors.{code_of}
+use Rattle.wire.specs.Read.{Bytes, AreBytes, Read, ok, bad, pick, about, limit, refused}
+use Rattle.wire.specs.Read.{told as result_told}
+use Rattle.schema.specs.Told.{told_place}
 use Rattle.wire.proofs.Laws.{sized_over, sized_within}
+use Rattle.wire.proofs.Pieces.{bad_ok, ok_ok}
 use Rattle.tree.specs.Schemas.{Schema, read_schemas}
-use Rattle.feeding.specs.Answers.{going, Call, fragment, close}
-use Rattle.feeding.specs.Machine.{State, stopped, feed, closed}
+use Rattle.tree.specs.Filling.{fill_file}
+use Rattle.schema.specs.declared.reader.Place.{Place}
+use Rattle.schema.specs.Told.{placed, blank}
+use Rattle.section.proofs.Sound.{schemas_of_lem, sound_of, columns_of, file_bad}
+use Rattle.feeding.specs.Answers.{going, complete, Call, fragment, close}
+use Rattle.feeding.specs.Machine.{State, stopped, settle, feed, closed}
 use Rattle.feeding.specs.Feeding.{total, over, take_in, opened, completed, failed, standing, ending, told, tell, call_in, file_schemas, call}
 use Rattle.feeding.specs.Feeding.{Reader as Standing}
 use Rattle.feeding.proofs.Fits.{taken_within, taken_over}
 use Rattle.incremental.specs.declared.record.Reader.{Reader}
-use Rattle.incremental.specs.declared.feed.Fed.TheVariants as fed
+use Rattle.incremental.specs.declared.feed.Fed.{Fed}
 use Rattle.incremental.specs.declared.feed.Next.{Next}
-use Rattle.incremental.specs.Record.{input_in, state_in, fits, known_code, reader_in, numbers, state_of, record_of}
+use Rattle.incremental.specs.Record.{input_in, state_in, fits, known_code, reader_in, state_of, record_of}
 use Rattle.incremental.specs.Calls.{record_fed, answer_fed, record_closed, answer_closed, told_fed}
-use Rattle.incremental.specs.Steps.{place_in, Sane, Came, ended, came, Stands, Left, Tells}
-use Rattle.incremental.proofs.StateLaws.{state_between, state_piece, state_body, state_finished, state_stopped, place_between, place_piece, place_late}
+use Rattle.incremental.specs.Steps.{place_in, Sane, Stands, Left, Tells, Slotted, FileRead}
+use Rattle.incremental.proofs.StateLaws.{state_between, state_piece, state_body, state_finished, place_between, place_piece, place_late}
 
 -- The record of a state, by its stage.
 data Open (r : Reader) : Type 0 where
@@ -195,126 +206,146 @@ module _ (r : Reader) where
       ap ending (closed_open o n ∙ ap (λ (q : ℕ). bad 1 q input.Single) (total_open o w s ∙ sym p))
 
   -- What a state answers.
-  pub tells_refused : {n : Next} → r.stage ≡ 8 → Tells (failed r.code r.at input.Section) n → Tells (standing (state_in r)) n
-  tells_refused e t = rw (state_stopped r (omega arith)) t
-
-  pub tells_complete : (a : Reader) → r.stage ≡ 7 → a ≡ state_of (state_in r) → Tells (standing (state_in r)) (record { reader = a; answer = fed.Complete r.rows })
+  pub tells_open :
+      (st : State) (a : Reader) (f : Fed) → Left st (Ok r) → a ≡ state_of (state_in r) → told_fed (Ok f) ≡ pick (eqb r.stage 7) (complete r.rows) (going r.rows) →
+      Tells (standing st) (record { reader = a; answer = Ok f })
   unfolding record_of
-  tells_complete a e h =
+  tells_open st a f t h g =
+      let o : Open r = open_by r t.sane.stage in
       record {
-        keeps = h ∙ ap record_of (sym (standing_open (at_end e)));
-        answers = sym (rw (state_finished r e));
+        keeps = h ∙ ap record_of (sym (standing_open o)) ∙ ap (λ (x : State). record_of (standing x)) t.state;
+        answers = g ∙ go (eqb r.stage 7) refl ∙ ap tell (sym (standing_open o)) ∙ ap (λ (x : State). tell (standing x)) t.state;
       }
+    where
+      go : (b : Bool) → eqb r.stage 7 ≡ b → pick b (complete r.rows) (going r.rows) ≡ told (state_in r)
+      go true e = sym (ap told (state_finished r (eqb-true _ _ e)))
+      go false e = sym (told_open (open_by r t.sane.stage) (eqb-false _ _ e))
 
-  pub tells_going :
-      (a : Reader) → r.stage ≤ 7 → (r.stage ≡ 7 → ⊥) → a ≡ state_of (state_in r) →
-      Tells (standing (state_in r)) (record { reader = a; answer = fed.Going r.rows })
-  unfolding record_of
-  tells_going a l n h =
-      let o : Open r = open_by r l in
-      record {
-        keeps = h ∙ ap record_of (sym (standing_open o));
-        answers = sym (ap tell (standing_open o) ∙ told_open o n);
-      }
+-- The numbers of kinds are those of refusals.
+pub code_known : (k : ErrorKind) {code : ℕ} → code_of k ≡ code → known_code code ≡ true
+code_known k {code} e = rw (← e) (go k)
+  where
+    go : (k : ErrorKind) → known_code (code_of k) ≡ true
+    go kind.Short = refl
+    go kind.Constant = refl
+    go kind.Value = refl
+    go kind.OptionsSize = refl
+    go kind.NumberForm = refl
+    go kind.Range = refl
+    go kind.Limit = refl
+    go kind.RepeatedId = refl
+    go kind.UnknownToken = refl
+    go kind.UnknownId = refl
+    go kind.Unpaired = refl
+    go kind.ChapterBit = refl
+    go kind.ForceNull = refl
+    go kind.Length = refl
+    go kind.Trailing = refl
+    go kind.Capacity = refl
+    go kind.PlanMismatch = refl
+    go kind.Missing = refl
+    go kind.TooLarge = refl
+    go kind.Entry = refl
 
-  -- A state that has come to a place, wherever that is.
-  came_here : {to : ℕ} → Came r to → Came r (place_in r)
-  came_here (ended e) = ended e
-  came_here (came s) =
-      came
-      (record {
-        stage = s.stage;
-        rows = s.rows;
-        comes = refl;
-        mapped = s.mapped;
-        column = s.column;
-        token = s.token;
-        below = s.below;
-        kept = s.kept;
-      })
+pub code_unknown : (code : ℕ) → (code ≡ 0) ⊎ (20 < code) → known_code code ≡ false
+code_unknown code (inl e) = rw e refl
+code_unknown code (inr l) = go (leb 1 code)
+  where
+    go : (t : Bool) → pick t (leb code 20) false ≡ false
+    go true = lt-leb _ _ l
+    go false = refl
 
-  came_open : {to : ℕ} → Came r to → (r.stage ≡ 8 → ⊥) → Open r
-  came_open (ended e) n = absurd (n e)
-  came_open (came s) n = open_by r s.stage
-
-  pub came_sane : Came r (place_in r) → (r.stage ≡ 8 → ⊥) → Sane r (place_in r)
-  came_sane (ended e) n = absurd (n e)
-  came_sane (came s) n = s
-
--- The record of a byte over the limit.
-left_over : (a : Reader) (st : State) → a ≡ numbers 8 19 0 0 0 0 0 0 0 6 [] [] → st ≡ stopped 19 0 input.Single → Left st a
-unfolding state_in
-left_over a st e f = rw (e, f) (record { state = refl; sane = ended refl })
+-- what a `?` ends early
+pub left_exit : (st : State) (r : Result Reader Error) (e : Error) → IsErrAnd r (λ d. d ≡ e) → settle (refused e) ≡ st → Left st r
+left_exit st (Ok _) e same h = elim same [ ]
+left_exit st (Err d) e same h = ap (λ (x : Error). settle (refused x)) same ∙ h
 
 -- A fragment taken in.
 module _ (S : List Schema) (r : Reader) (f : Bytes) (w : length r.held ≡ 16) (s : Sane r (place_in r)) where
   from_place : total (state_in r) ≡ place_in r
   from_place = total_open r (open_by r s.stage) w s
 
-  pub taken_none : length f ≡ 0 → Left (take_in S (state_in r) f) r
+  pub taken_none : length f ≡ 0 → take_in S (state_in r) f ≡ state_in r
   unfolding take_in
   taken_none e = go f e
     where
-      go : (g : Bytes) → length g ≡ 0 → Left (take_in S (state_in r) g) r
-      go [] e = record { state = refl; sane = came s }
+      go : (g : Bytes) → length g ≡ 0 → take_in S (state_in r) g ≡ state_in r
+      go [] e = refl
       go (b ∷ g) e = absurd (omega arith)
 
-  pub taken_full : (a : Reader) → limit ≤ place_in r → 0 < length f → a ≡ numbers 8 19 0 0 0 0 0 0 0 6 [] [] → Left (take_in S (state_in r) f) a
+  pub taken_full : limit ≤ place_in r → 0 < length f → stopped 19 0 input.Single ≡ take_in S (state_in r) f
   unfolding feed
-  taken_full a h l e =
+  taken_full h l =
       let z : limit - total (state_in r) ≡ 0 = omega (arith, from_place) in
-      left_over a _ e
+      sym
       (taken_over S (state_in r) f (omega arith)
       ∙ ap (λ (n : ℕ). over (feed S (state_in r) (take n f))) z
       ∙ over_open r (open_by r s.stage))
 
-  pub taken_all : (a : Reader) {to : ℕ} → length f ≤ limit - place_in r → Stands (feed S (state_in r) f) to a → Left (take_in S (state_in r) f) a
-  taken_all a h t =
-      record {
-        state = t.state ∙ sym (taken_within S (state_in r) f (omega (arith, from_place)));
-        sane = came_here a t.sane;
-      }
+  -- as much as there is room for
+  module _ (size : ℕ) (p : size ≡ min (length f) (limit - place_in r)) where
+    over_room : size < length f → take_in S (state_in r) f ≡ over (feed S (state_in r) (take size f))
+    over_room h =
+        let z : limit - total (state_in r) ≡ size = omega (arith, from_place) in
+        taken_over S (state_in r) f (omega arith) ∙ ap (λ (n : ℕ). over (feed S (state_in r) (take n f))) z
 
-  -- more than there is room for
-  module _ (room : ℕ) (p : room ≡ limit - place_in r) (h : room < length f) (a : Reader) {to : ℕ} (t : Stands (feed S (state_in r) (take room f)) to a) where
-    over_room : take_in S (state_in r) f ≡ over (state_in a)
-    over_room =
-        let z : limit - total (state_in r) ≡ room = omega (arith, from_place) in
-        taken_over S (state_in r) f (omega arith) ∙ ap (λ (n : ℕ). over (feed S (state_in r) (take n f))) z ∙ ap over (sym t.state)
+    within_room : length f ≤ size → take_in S (state_in r) f ≡ feed S (state_in r) (take size f)
+    within_room h = taken_within S (state_in r) f (omega (arith, from_place)) ∙ ap (feed S (state_in r)) (sym (take_all size f h))
 
-    pub taken_stopped : a.stage ≡ 8 → Left (take_in S (state_in r) f) a
-    taken_stopped e =
-        let q : state_in a ≡ stopped a.code a.at input.Single = state_stopped a (omega arith) in
-        record { state = q ∙ ap over (sym q) ∙ sym over_room; sane = ended e }
+    pub taken_stopped : {c o : ℕ} {i : Input} → stopped c o i ≡ feed S (state_in r) (take size f) → stopped c o i ≡ take_in S (state_in r) f
+    taken_stopped {c} {o} {i} e = go (leb (length f) size) refl
+      where
+        go : (t : Bool) → leb (length f) size ≡ t → stopped c o i ≡ take_in S (state_in r) f
+        go true h = e ∙ sym (within_room (leb-true _ _ h))
+        go false h = ap over e ∙ sym (over_room (leb-false _ _ h))
 
-    pub taken_cut : (b : Reader) → (a.stage ≡ 8 → ⊥) → b ≡ numbers 8 19 0 0 0 0 0 0 0 6 [] [] → Left (take_in S (state_in r) f) b
-    taken_cut b n e = left_over b _ e (over_room ∙ over_open a (came_open a t.sane n))
+    module _ (a : Reader) {to : ℕ} (t : Stands (feed S (state_in r) (take size f)) to a) where
+      pub taken_all : length f ≤ size → Left (take_in S (state_in r) f) (Ok a)
+      taken_all h = record { state = t.state ∙ sym (within_room h); sane = rw (sym t.sane.comes) at t.sane }
 
--- An answer that stands.
-pub tells_failed :
-    (code offset number : ℕ) (i : Input) (a : Reader) → number ≡ input_number i → a ≡ numbers 8 code 0 0 0 0 offset 0 0 number [] [] →
-    Tells (failed code offset i) (record { reader = a; answer = fed.Refused code offset i })
-unfolding record_of
-tells_failed code offset number i a e h = record { keeps = h ∙ rw e; answers = refl }
-
-pub tells_completed : (rows : ℕ) (a : Reader) → a ≡ numbers 9 0 0 0 0 rows 0 0 0 0 [] [] → Tells (completed rows) (record { reader = a; answer = fed.Complete rows })
-unfolding record_of
-tells_completed rows a h = record { keeps = h; answers = refl }
+      pub taken_cut : size < length f → stopped 19 0 input.Single ≡ take_in S (state_in r) f
+      taken_cut h = sym (over_room h ∙ ap over (sym t.state) ∙ over_open a (open_by a t.sane.stage))
 
 -- The schema file.
+same_error : Read Place → Read (List Schema)
+same_error (ok p) = ok []
+same_error (bad c o i) = bad c o i
+
 module _ (file : Bytes) where
   pub file_large : limit < length file → file_schemas file ≡ bad 19 0 input.Schema
   unfolding file_schemas about
   file_large h = rw (sized_over file h) refl
 
   module _ (h : length file ≤ limit) where
-    pub file_refused : (e : Error) → read_schemas file ≡ refused e → file_schemas file ≡ bad (code_of e.kind) e.offset input.Schema
+    file_refused : (e : Error) → read_schemas file ≡ refused e → file_schemas file ≡ bad (code_of e.kind) e.offset input.Schema
     unfolding file_schemas about
     file_refused e q = rw (sized_within file h, q) refl
 
-    pub file_read : (S : List Schema) → read_schemas file ≡ ok S → file_schemas file ≡ ok S
+    file_read : (S : List Schema) → read_schemas file ≡ ok S → file_schemas file ≡ ok S
     unfolding file_schemas about
     file_read S q = rw (sized_within file h, q) refl
+
+    file_slotted : (table : List ℕ) (p : Place) → AreBytes file → fill_file file blank ≡ ok (placed p table) → Slotted file table p
+    file_slotted table p bytes e =
+        let columns = columns_of file table p bytes e in
+        let sound = sound_of file table p bytes e in
+        record {
+          reads = file_read _ (schemas_of_lem file table p bytes e);
+          sound = sound;
+          columns = columns;
+          few = omega (arith, columns, sound.total);
+        }
+
+    -- What the reader of a file answers, about the schema file.
+    pub file_told :
+        (table : List ℕ) (read answer : Result Place Error) → AreBytes file → told_place read table ≡ fill_file file blank →
+        result_told answer ≡ about input.Schema (result_told read) →
+        FileRead file table answer
+    unfolding about same_error
+    file_told table (Ok p) (Ok q) bytes e f = subst (λ (x : Place). Slotted file table x) (ok_ok (sym f)) (file_slotted table p bytes (sym e))
+    file_told table (Ok p) (Err q) bytes e f = absurd (bad_ok f)
+    file_told table (Err p) (Ok q) bytes e f = absurd (bad_ok (sym f))
+    file_told table (Err p) (Err q) bytes e f = file_refused p (file_bad file p bytes e) ∙ ap same_error (sym f)
 
 -- The record and the answer of a call.
 pub fed_by :

@@ -1,5 +1,8 @@
 -- The fields of row data in progress: what passes a column, what a column's field leads to, and the columns in their slots.
 -- Assumes nothing.
+use Rattle.std.specs.Prelude.{Option as Rust, Some, None}
+use Rattle.std.specs.Option.{unwrap_or}
+use Rattle.schema.specs.Children.{told_child}
 use Prim.Native.Nat.{ℕ, zero, suc, ◌+◌, ◌-◌, ◌≤◌, ◌<◌, max, min}
 use mathlib.Core.List.{List, [], ◌∷◌}
 use mathlib.Core.Bool.{Bool, true, false}
@@ -8,7 +11,7 @@ use mathlib.Core.Path.{◌≡◌, refl, sym, ap, ◌∙◌}
 use native.Mathlib.Omega.{arith}
 use lib.ListN.{length, get_or, drop, drop_of_length-le}
 use lib.Seq.{drop-cons}
-use lib.Dec.{eqb, leb, ltb}
+use lib.Dec.{leb, ltb}
 use borrow.Author.Tests.{leb-true, leb-false, ltb-true, ltb-false}
 use Rattle.wire.specs.Read.{Bytes, ok, pick, cut}
 use Rattle.wire.specs.Bits.{map_bytes}
@@ -28,7 +31,13 @@ use Rattle.tree.specs.Table.{schema_slot, start_in, count_in, schemas_in}
 use Rattle.tree.proofs.TableSays.{schemas_in_length}
 use Rattle.tree.proofs.Children.{child_found}
 use Rattle.shapes.specs.Shapes.{Sound, slot_columns}
-use Rattle.shapes.proofs.Slots.{in_slots, length_slots}
+use Rattle.shapes.proofs.Slots.{in_slots, length_slots, slot_bit}
+use mir.Val.{bool_byte}
+use Rattle.walk.specs.Presence.{one}
+use Rattle.column.specs.Columns.{is_nullable}
+use Rattle.tree.specs.Schemas.{as_column}
+use Rattle.tree.specs.Table.{entry_in}
+use Rattle.grammar.specs.Grammar.{columns_at}
 use Rattle.section.proofs.Scanning.{columns_at_lem}
 use Rattle.feeding.specs.Machine.{Kind, parent_row, child_row, change_row, is_update, columns_for, column_for, marks_for, has_for, behind, adds, prefix, State, between, keep, skip, body_of, seek, seek_from, feed}
 use Rattle.feeding.proofs.Left.{marks_length}
@@ -38,7 +47,11 @@ use Rattle.incremental.specs.declared.fields.Block.{Block}
 use Rattle.incremental.specs.declared.fields.Fields.{Fields}
 use Rattle.incremental.specs.declared.fields.Moved.{Moved}
 use Rattle.incremental.specs.declared.record.Reader.{Reader}
-use Rattle.incremental.specs.Record.{kind_by, kind_in, map_in}
+use Rattle.incremental.specs.declared.record.RowKind.{RowKind}
+use Rattle.incremental.specs.declared.record.RowKind.TheVariants as row_kind
+use Rattle.incremental.specs.Parts.{kind_told}
+use mathlib.Core.Logic.{◌⊎◌, inl, inr}
+use Rattle.incremental.specs.Record.{kind_in, map_in}
 use Rattle.incremental.specs.Steps.{number_for, Columns, FieldsPassed, Sought, Stands}
 
 false_true : false ≡ true → ⊥
@@ -51,6 +64,17 @@ prefix_few c = go (ltb c.maximum 256)
     go : (t : Bool) → pick t 1 4 ≤ 4
     go true = omega arith
     go false = omega arith
+
+-- The bit of the next column, as code counts.
+counted : (t : Bool) → bool_byte t ≡ one t
+counted true = refl
+counted false = refl
+
+pub slot_counted :
+    (slots : List ℕ) (first count i b : ℕ) (c : Column) {t : Bool} {o : ℕ} → i < count → b ≡ bit_of (in_slots slots first count) i →
+    c ≡ as_column (entry_in (get_or slots (first + i) 0)) → t ≡ is_nullable c → o ≡ bool_byte t →
+    (b + o ≡ bit_of (in_slots slots first count) (i + 1)) × (b + o ≤ i + 1)
+slot_counted slots first count i b c {t} h e f g k = slot_bit slots first count i b c h e f g (k ∙ counted t)
 
 -- One column.
 module _ (S : List Schema) (n at : ℕ) (k : Kind) (bits : Bytes) (j : ℕ) where
@@ -357,6 +381,11 @@ sought_none {S} {s} {r} {place} {j} {m} w z =
       sane = rw y at w.sane;
     }
 
+-- Where no schema has an id, the number is 0.
+pub or0_told : (x : Rust ℕ) → unwrap_or x 0 ≡ or0 (told_child x)
+or0_told None = refl
+or0_told (Some k) = refl
+
 -- The columns of row data stand in the slots of their schema.
 or_low : (ss : List Schema) (id : ℕ) → 1 ≤ length ss → or0 (child_number ss id) < length ss
 or_low ss id top = go (child_number ss id) refl
@@ -382,21 +411,26 @@ module _ (slots : List ℕ) (n : ℕ) (sound : Sound slots n) where
         inside = omega (arith, sound.inside k h);
       }
 
-  pub block_told :
-      (kind id number : ℕ) (b : Block) → number ≡ number_for (schemas_in 0 n slots) kind id →
+  child_block :
+      (id number : ℕ) (b : Block) → number ≡ or0 (child_number (schemas_in 0 n slots) id) →
       b.first ≡ start_in (get_or slots (schema_slot number) 0) → b.count ≡ count_in (get_or slots (schema_slot number) 0) →
-      Columns slots (columns_for (schemas_in 0 n slots) (kind_by kind id)) b
-  block_told kind id number b e f g = go (eqb kind 3) (eqb kind 2) e
-    where
-      go :
-          (t v : Bool) → number ≡ pick t (or0 (child_number (schemas_in 0 n slots) id)) (pick v (or0 (child_number (schemas_in 0 n slots) id)) 0) →
-          Columns slots (columns_for (schemas_in 0 n slots) (pick t (change_row id) (pick v (child_row id) parent_row))) b
-      go true v z =
-          rw (columns_at_lem slots n (or0 (child_number (schemas_in 0 n slots) id)) (number_low id))
-          (at_number (or0 (child_number (schemas_in 0 n slots) id)) b (number_low id) (f ∙ rw z) (g ∙ rw z))
-      go false true z =
-          rw (columns_at_lem slots n (or0 (child_number (schemas_in 0 n slots) id)) (number_low id))
-          (at_number (or0 (child_number (schemas_in 0 n slots) id)) b (number_low id) (f ∙ rw z) (g ∙ rw z))
-      go false false z =
-          rw (columns_at_lem slots n 0 (omega (arith, sound.top)))
-          (at_number 0 b (omega (arith, sound.top)) (f ∙ rw z) (g ∙ rw z))
+      Columns slots (columns_at (schemas_in 0 n slots) (or0 (child_number (schemas_in 0 n slots) id))) b
+  child_block id number b e f g =
+      rw (columns_at_lem slots n (or0 (child_number (schemas_in 0 n slots) id)) (number_low id))
+      (at_number (or0 (child_number (schemas_in 0 n slots) id)) b (number_low id) (f ∙ rw e) (g ∙ rw e))
+
+  pub block_told :
+      (k : Kind) (number : ℕ) (b : Block) → number ≡ number_for (schemas_in 0 n slots) k →
+      b.first ≡ start_in (get_or slots (schema_slot number) 0) → b.count ≡ count_in (get_or slots (schema_slot number) 0) →
+      Columns slots (columns_for (schemas_in 0 n slots) k) b
+  block_told parent_row number b e f g =
+      rw (columns_at_lem slots n 0 (omega (arith, sound.top))) (at_number 0 b (omega (arith, sound.top)) (f ∙ rw e) (g ∙ rw e))
+  block_told (child_row id) number b e f g = child_block id number b e f g
+  block_told (change_row id) number b e f g = child_block id number b e f g
+
+  -- The number of the schema, as code finds it.
+  pub number_told :
+      (kind : RowKind) (id number : ℕ) → (kind ≡ row_kind.Child id) ⊎ (kind ≡ row_kind.Change id) → number ≡ or0 (child_number (schemas_in 0 n slots) id) →
+      (number ≡ number_for (schemas_in 0 n slots) (kind_told kind)) × (number < 256)
+  number_told kind id number (inl e) f = (rw e f, rw f (number_few id))
+  number_told kind id number (inr e) f = (rw e f, rw f (number_few id))

@@ -8,8 +8,8 @@ use mathlib.Core.Path.{◌≡◌, refl, sym, ap, ◌∙◌}
 use native.Mathlib.Omega.{arith}
 use lib.ListN.{length, get_or}
 use lib.Dec.{eqb}
-use borrow.Author.Tests.{eq-eqb, ne_eqb}
-use Rattle.wire.specs.Read.{Bytes, ok, pick, check, cut, whole}
+use borrow.Author.Tests.{eq-eqb}
+use Rattle.wire.specs.Read.{Bytes, ok, check, cut, whole}
 use Rattle.wire.proofs.Pieces.{bad_ok, bind_ok}
 use Rattle.walk.specs.Data.{data_end}
 use Rattle.tree.specs.Schemas.{Schema, child_number, or0}
@@ -25,7 +25,7 @@ use Rattle.feeding.specs.Machine.{State, feed}
 use Rattle.feeding.specs.Machine as M
 use Rattle.feeding.proofs.Fed.{feed_append}
 use Rattle.feeding.proofs.Bulk.{cut_two, data_ends, parent_quick, child_quick, change_quick, delete_quick}
-use Rattle.incremental.specs.Record.{before_by}
+use Rattle.incremental.specs.Steps.{child_before}
 
 follows_itself : (before : Before) (id : ℕ) → before ≡ after id → follows before id ≡ true
 follows_itself before id e = rw e (eq-eqb id id refl)
@@ -148,15 +148,12 @@ module _ (S : List Schema) (s : Bytes) where
       passes.deleted (passes_any (passes.next p g r) (omega (arith, passes_forward p, (element_here b to g r).further)) before) h
   passes_any {at} (passes.deleted (passes.deleted p g) h) l before = passes.deleted (passes_any (passes.deleted p g) (omega (arith, passes_forward p)) before) h
 
--- Behind the element that the record says.
+-- Behind the element that the number of its schema says.
 pub passes_behind :
-    (slots : List ℕ) (n : ℕ) (s : Bytes) {at rows to child : ℕ} {behind : Before} (paired id : ℕ) →
-    child ≡ pick (eqb paired 0) 0 (or0 (child_number (schemas_in 0 n slots) id)) → Passes (schemas_in 0 n slots) s at (before_in slots child) rows to behind → at < to →
-    Passes (schemas_in 0 n slots) s at (before_by paired id) rows to behind
-passes_behind slots n s {child = child} zero id e p l = rw e at p
-passes_behind slots n s {at} {rows} {to} {child} {behind} (suc k) id e p l =
-    let z : suc k ≡ 0 → ⊥ = λ y. omega arith in
-    go (child_number (schemas_in 0 n slots) id) refl (rw (ne_eqb (suc k) 0 z) at e)
+    (slots : List ℕ) (n : ℕ) (s : Bytes) {at rows to child : ℕ} {behind : Before} (before : Before) → child ≡ child_before (schemas_in 0 n slots) before →
+    Passes (schemas_in 0 n slots) s at (before_in slots child) rows to behind → at < to → Passes (schemas_in 0 n slots) s at before rows to behind
+passes_behind slots n s other e p l = rw e at p
+passes_behind slots n s {at} {rows} {to} {child} {behind} (after id) e p l = go (child_number (schemas_in 0 n slots) id) refl e
   where
     go : (o : Option ℕ) → child_number (schemas_in 0 n slots) id ≡ o → child ≡ or0 o → Passes (schemas_in 0 n slots) s at (after id) rows to behind
     go none f c = passes_any (schemas_in 0 n slots) s (rw c at p) l (after id)

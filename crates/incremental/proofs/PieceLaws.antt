@@ -1,23 +1,21 @@
 -- Pieces that are whole: what each is judged to, and the record that then stands.
 -- Assumes nothing.
+use Rattle.std.specs.Prelude.{Result, Ok, Err, IfErr, IsErrAnd}
+use Rattle.wire.specs.Read.{told}
 use Prim.Native.Nat.{ℕ, zero, suc, ◌+◌, ◌*◌, ◌-◌, ◌≤◌, ◌<◌, min}
 use mathlib.Core.Path.{◌≡◌, refl, sym, ap, ◌∙◌}
-use mathlib.Core.List.{List, [], ◌∷◌, ◌++◌, map, append_assoc, append-nil}
+use mathlib.Core.List.{List, [], ◌∷◌, ◌++◌, map}
 use mathlib.Core.Bool.{Bool, true, false}
 use native.Mathlib.Omega.{arith}
 use native.Mathlib.Numerals.{add-one}
-use lib.ListN.{length, get_or, take, drop, set, length-set}
-use lib.Seq.{length-take-le, take-suc-set}
-use lib.Dec.{eqb}
+use lib.ListN.{length, get_or, take, drop}
 use borrow.Author.Tests.{ne_eqb}
 use Rattle.wire.specs.declared.error.Error.{Error}
 use Rattle.wire.specs.declared.error.Input.{Input}
 use Rattle.wire.specs.declared.error.Input.TheVariants as input
-use Rattle.wire.specs.Errors.{code_of}
-use Rattle.wire.specs.Read.{Bytes, Read, ok, bad, check, cut}
+use Rattle.wire.specs.Read.{Bytes, Read, ok, bad, check, refused}
 use Rattle.wire.specs.Integers.{read_int}
 use Rattle.wire.specs.Bits.{map_bytes}
-use Rattle.wire.proofs.Laws.{cut_suc}
 use Rattle.column.specs.declared.column.Column.{Column}
 use Rattle.column.specs.declared.columns.Columns.{Columns as Arrays}
 use Rattle.column.specs.Columns.{prefix_size, length_error}
@@ -28,51 +26,55 @@ use Rattle.walk.specs.Rows.{opened}
 use Rattle.walk.specs.Updates.{update_end, update_bytes}
 use Rattle.walk.specs.Data.{data_opened}
 use Rattle.walk.proofs.Laws.{bit_zero, bit_all, bit_few, opened_well, bits_next, bits_end}
-use Rattle.tree.specs.Schemas.{Schema, as_column, child_number, or0}
+use Rattle.tree.specs.Schemas.{Schema, as_column, child_number}
 use Rattle.tree.specs.Table.{entries_in}
 use Rattle.shapes.proofs.Slots.{in_slots, length_slots, columns_held}
 use Rattle.grammar.specs.Grammar.{Before, other}
 use Rattle.grammar.specs.Reader.{token_of, known_child, follows}
 use Rattle.grammar.proofs.RowErrors.{RowErrorAt, short, chapter_bit, force_rule, length_rule, of_told, of_int, of_opened, of_update}
-use Rattle.section.proofs.HeadLaws.{number_none, number_some}
-use Rattle.feeding.specs.Machine.{Kind, parent_row, child_row, change_row, is_update, columns_for, column_for, map_size, child_id, change_id, delete_id, maps, prefix, State, between, keep, skip, finished, stopped, settle, body_of, seek_from, mapped, row_from, row_by, tokened, measured, judge, feed}
-use Rattle.feeding.proofs.Bulk.{cut_two, keep_some, keep_all}
+use mathlib.Core.Option.{none, some}
+use Rattle.feeding.specs.Machine.{Kind, from, parent_row, child_row, change_row, is_update, columns_for, column_for, map_size, child_id, change_id, delete_id, maps, prefix, State, between, keep, skip, finished, stopped, settle, body_of, seek_from, mapped, row_from, row_by, tokened, measured, judge, feed}
+use Rattle.feeding.proofs.Bulk.{keep_some, keep_all}
 use Rattle.incremental.specs.declared.record.Reader.{Reader}
 use Rattle.incremental.specs.declared.fields.Block.{Block}
-use Rattle.incremental.specs.Record.{before_by, kind_by, kind_in, held_in, map_in, stage_in, state_in, numbers}
-use Rattle.incremental.specs.Steps.{Columns, Sane, came, Stands}
-use Rattle.incremental.proofs.StateLaws.{state_between, state_piece, state_finished, stage_child, stage_change, stage_delete, stage_maps, sane_between, sane_late, sane_piece, body_stands, stopped_anywhere, stands}
+use Rattle.incremental.specs.Record.{before_by, paired_of, paired_id, kind_of, id_of, kind_in, held_in, map_in, stage_in, state_in, numbers}
+use Rattle.incremental.specs.Steps.{Columns, Sane, Stands, Reached}
+use Rattle.incremental.proofs.StateLaws.{before_back, kind_back, state_between, state_piece, state_finished, stage_child, stage_change, stage_delete, stage_maps, sane_between, sane_late, sane_piece, body_stands, stands}
 
 -- The same record, of another way to say its state.
 pub stands_as : {st st' : State} {to : ℕ} {r : Reader} → Stands st to r → st ≡ st' → Stands st' to r
 stands_as {st} {st'} {to} {r} s e = record { state = s.state ∙ e; sane = s.sane }
 
--- An error of a piece is about a single input, and stands in it.
-pub record Within (size offset : ℕ) (name : Input) : Type 0 where
-  pub single : name ≡ input.Single
-  pub inside : offset ≤ size
+pub reached_as : {st st' : State} {to to' : ℕ} (r : Result Reader Error) → Reached st to r → st ≡ st' → to ≡ to' → Reached st' to' r
+reached_as {st} {st'} {to} {to'} (Ok r) s e f = record { state = s.state ∙ e; sane = rw f at s.sane }
+reached_as (Err q) s e f = s ∙ e
 
-pub refused_piece :
-    {st : State} {size to : ℕ} {r : Reader} (start : ℕ) (e : Error) → Within size e.offset e.input → st ≡ stopped (code_of e.kind) (start + e.offset) e.input →
-    Stands (stopped (code_of e.kind) (start + e.offset) input.Single) (start + e.offset) r → Stands st to r
-refused_piece {st} {size} {to} {r} start e w q s =
-    stands_as (stopped_anywhere r s) (ap (λ (i : Input). stopped (code_of e.kind) (start + e.offset) i) (sym w.single) ∙ sym q)
+-- what a `?` ends early
+pub reached_exit : (st : State) (to : ℕ) (r : Result Reader Error) (e : Error) → IsErrAnd r (λ d. d ≡ e) → settle (refused e) ≡ st → Reached st to r
+reached_exit st to (Ok _) e same h = elim same [ ]
+reached_exit st to (Err d) e same h = ap (λ (x : Error). settle (refused x)) same ∙ h
 
-within : {n c o : ℕ} {i : Input} → RowErrorAt n c o × (i ≡ input.Single) → Within n o i
-within (short, e) = record { single = e; inside = omega arith }
-within (chapter_bit h, e) = record { single = e; inside = omega arith }
-within (force_rule h, e) = record { single = e; inside = omega arith }
-within (length_rule h, e) = record { single = e; inside = omega arith }
+-- The place of an error of a piece is no greater than its size.
+early : {n c o : ℕ} {i : Input} → RowErrorAt n c o × (i ≡ input.Single) → o ≤ n
+early (short, e) = omega arith
+early (chapter_bit h, e) = omega arith
+early (force_rule h, e) = omega arith
+early (length_rule h, e) = omega arith
 
-pub int_within : (s : Bytes) (n : ℕ) {c o : ℕ} {i : Input} → read_int s 0 n ≡ bad c o i → Within (length s) o i
-int_within s n e = within (of_told (of_int s 0 n) e)
+pub int_early : (s : Bytes) (n : ℕ) (r : Result ℕ Error) → length s ≤ 16 → told r ≡ read_int s 0 n → IfErr r (λ e. e.offset ≤ 16777216)
+int_early s n (Ok v) l e = tt
+int_early s n (Err q) l e = let o : q.offset ≤ length s = early (of_told (of_int s 0 n) (sym e)) in omega arith
 
-pub data_within : (update : Bool) (cs : List Column) (s : Bytes) {c o : ℕ} {i : Input} → data_opened update cs s 0 ≡ bad c o i → Within (length s) o i
+pub data_early :
+    (update : Bool) (cs : List Column) (s : Bytes) (r : Result ℕ Error) → length s ≤ 16 → told r ≡ data_opened update cs s 0 →
+    IfErr r (λ e. e.offset ≤ 16777216)
 unfolding update_end
-data_within true cs s {c} {o} {i} e =
-    let f : update_end cs s 0 ≡ bad c o i = rw e refl in
-    within (of_told (of_update s cs 0) f)
-data_within false cs s e = within (of_told (of_opened s cs 0) e)
+data_early update cs s (Ok v) l e = tt
+data_early true cs s (Err q) l e =
+    let f : update_end cs s 0 ≡ refused q = rw (sym e) refl in
+    let o : q.offset ≤ length s = early (of_told (of_update s cs 0) f) in
+    omega arith
+data_early false cs s (Err q) l e = let o : q.offset ≤ length s = early (of_told (of_opened s cs 0) (sym e)) in omega arith
 
 -- The columns of row data, in their slots.
 module _ (slots : List ℕ) (S : List Schema) (k : Kind) (b : Block) (h : Columns slots (columns_for S k) b) where
@@ -151,11 +153,11 @@ module _ (cs : List Column) (bits : Bytes) where
 
 -- The maps of row data.
 module _ (S : List Schema) (n start : ℕ) (bits : Bytes) (k : Kind) where
-  pub maps_refused : {c o : ℕ} {i : Input} → data_opened (is_update k) (columns_for S k) bits 0 ≡ bad c o i → settle (mapped S n start bits k) ≡ stopped c (start + o) i
+  pub maps_stopped : {c o : ℕ} {i : Input} → from start (data_opened (is_update k) (columns_for S k) bits 0) ≡ bad c o i → settle (mapped S n start bits k) ≡ stopped c o i
   unfolding mapped
-  maps_refused e = rw e refl
+  maps_stopped e = rw e refl
 
-  pub maps_kept : {v : ℕ} → data_opened (is_update k) (columns_for S k) bits 0 ≡ ok v → settle (mapped S n start bits k) ≡ seek_from S n (start + length bits) k bits 0
+  pub maps_kept : {v : ℕ} → from start (data_opened (is_update k) (columns_for S k) bits 0) ≡ ok v → settle (mapped S n start bits k) ≡ seek_from S n (start + length bits) k bits 0
   unfolding mapped
   maps_kept e = rw e refl
 
@@ -164,51 +166,22 @@ module _ (S : List Schema) (n start : ℕ) (bits : Bytes) (k : Kind) where
   maps_judged = refl
 
 -- Row data that start.
-module _ (S : List Schema) (n at kind id size : ℕ) (e : size ≡ map_size S (kind_by kind id)) where
-  pub row_mapless : size ≡ 0 → row_from S n at (kind_by kind id) ≡ mapped S n at [] (kind_by kind id)
-  row_mapless z = rw (sym e ∙ z) refl
-
-  row_maps : (size ≡ 0 → ⊥) → row_from S n at (kind_by kind id) ≡ ok (keep n at [] (size - 1) (maps (kind_by kind id)))
+module _ (S : List Schema) (n at : ℕ) (k : Kind) (size : ℕ) (e : size ≡ map_size S k) where
+  row_maps : (size ≡ 0 → ⊥) → row_from S n at k ≡ ok (keep n at [] (size - 1) (maps k))
   row_maps z = rw (← e) (go size z)
     where
-      go : (m : ℕ) → (m ≡ 0 → ⊥) → row_by S n at m (kind_by kind id) ≡ ok (keep n at [] (m - 1) (maps (kind_by kind id)))
+      go : (m : ℕ) → (m ≡ 0 → ⊥) → row_by S n at m k ≡ ok (keep n at [] (m - 1) (maps k))
       go zero z = absurd (z refl)
       go (suc m) z = let y : suc m - 1 ≡ m = omega arith in rw y refl
 
-  pub row_started : size ≤ 16 → (size ≡ 0 → ⊥) → n < at → Stands (settle (row_from S n at (kind_by kind id))) at (numbers 4 0 kind id 0 n at (size - 1) 0 0 [] [])
+  pub row_started : size ≤ 16 → (size ≡ 0 → ⊥) → n < at → Stands (settle (row_from S n at k)) at (numbers 4 0 (kind_of k) (id_of k) 0 n at (size - 1) 0 0 [] [])
   row_started l z h =
-      let r : Reader = numbers 4 0 kind id 0 n at (size - 1) 0 0 [] [] in
-      stands (state_piece r (omega arith) (omega arith) ∙ ap (keep n at [] (size - 1)) (stage_maps r refl) ∙ sym (ap settle (row_maps z)))
+      let r : Reader = numbers 4 0 (kind_of k) (id_of k) 0 n at (size - 1) 0 0 [] [] in
+      stands
+      (state_piece r (omega arith) (omega arith)
+      ∙ ap (keep n at [] (size - 1)) (stage_maps r refl ∙ ap maps (kind_back k))
+      ∙ sym (ap settle (row_maps z)))
       (sane_piece r (omega arith) (omega arith) (omega arith) (omega arith) (omega arith) (omega arith) (omega arith) (omega arith)) (omega arith)
-
--- An id behind a token.
-pub id_started : (stage rows at paired id : ℕ) → 1 ≤ stage → stage ≤ 3 → rows < at → Sane (numbers stage 0 0 id paired rows at 3 0 0 [] []) at
-id_started stage rows at paired id l h a =
-    let r : Reader = numbers stage 0 0 id paired rows at 3 0 0 [] [] in
-    let z : at + 0 ≡ at = omega arith in
-    rw z at (sane_piece r (omega arith) (omega arith) (omega arith) l (omega arith) (omega arith) (omega arith) (omega arith))
-
--- A record that waits for an id of four bytes.
-pub record Waits (stage rows at paired id : ℕ) (r : Reader) : Type 0 where
-  pub stages : r.stage ≡ stage
-  pub counted : r.rows ≡ rows
-  pub stands : r.at ≡ at
-  pub pairs : r.paired ≡ paired
-  pub names : r.id ≡ id
-  pub lacks : r.more ≡ 3
-  pub empty : r.filled ≡ 0
-  pub sane : Sane r at
-
-pub waits :
-    {stage rows at paired id : ℕ} {r : Reader} →
-    (r.stage ≡ stage) × (r.rows ≡ rows) × (r.at ≡ at) × (r.paired ≡ paired) × (r.id ≡ id) × (r.more ≡ 3) × (r.filled ≡ 0) × Sane r at →
-    Waits stage rows at paired id r
-waits (a, b, c, d, e, f, g, h) =
-    record { stages = a; counted = b; stands = c; pairs = d; names = e; lacks = f; empty = g; sane = h }
-
-waits_in : {stage rows at paired id : ℕ} {r : Reader} → 1 ≤ stage → stage ≤ 5 → Waits stage rows at paired id r → state_in r ≡ keep rows at [] 3 (stage_in r)
-waits_in {stage} {rows} {at} {paired} {id} {r} l h w =
-    state_piece r (omega (arith, w.stages)) (omega (arith, w.stages)) ∙ rw (w.counted, w.stands, w.lacks, w.empty) refl
 
 -- Tokens.
 module _ (S : List Schema) (n at : ℕ) (before : Before) (t : ℕ) where
@@ -237,24 +210,42 @@ module _ (S : List Schema) (n at : ℕ) (before : Before) (t : ℕ) where
   unfolding tokened token_of
   token_unknown a b c d f = rw (ne_eqb _ _ a, ne_eqb _ _ b, ne_eqb _ _ c, ne_eqb _ _ d, ne_eqb _ _ f) refl
 
-module _ (S : List Schema) (n at paired id t : ℕ) (r : Reader) where
-  pub child_waits : t ≡ 0x87 → Waits 1 n (at + 1) 0 0 r → Stands (settle (tokened S n at (before_by paired id) (token_of t))) (at + 1) r
-  child_waits e w =
-      let z : r.at - 1 ≡ at = omega (arith, w.stands) in
-      let y : stage_in r ≡ child_id at = stage_child r w.stages ∙ rw z refl in
-      record { state = waits_in (omega arith) (omega arith) w ∙ rw y refl ∙ sym (ap settle (token_child S n at (before_by paired id) t e)); sane = came w.sane }
+-- An id behind a token.
+id_sane : (stage rows at : ℕ) (before : Before) → 1 ≤ stage → stage ≤ 3 → rows < at → Sane (numbers stage 0 0 (paired_id before) (paired_of before) rows at 3 0 0 [] []) (at + 0)
+id_sane stage rows at before l h a =
+    let r : Reader = numbers stage 0 0 (paired_id before) (paired_of before) rows at 3 0 0 [] [] in
+    sane_piece r (omega arith) (omega arith) (omega arith) l (omega arith) (omega arith) (omega arith) (omega arith)
 
-  pub change_waits : t ≡ 0x8A → Waits 2 n (at + 1) paired id r → Stands (settle (tokened S n at (before_by paired id) (token_of t))) (at + 1) r
-  change_waits e w =
-      let z : r.at - 1 ≡ at = omega (arith, w.stands) in
-      let y : stage_in r ≡ change_id (before_by paired id) at = stage_change r w.stages ∙ rw (z, w.pairs, w.names) refl in
-      record { state = waits_in (omega arith) (omega arith) w ∙ rw y refl ∙ sym (ap settle (token_change S n at (before_by paired id) t e)); sane = came w.sane }
+module _ (S : List Schema) (n at : ℕ) (before : Before) (t : ℕ) (a : n ≤ at) where
+  pub child_waits : t ≡ 0x87 → Stands (settle (tokened S n at before (token_of t))) (at + 1) (numbers 1 0 0 0 0 n (at + 1) 3 0 0 [] [])
+  child_waits e =
+      let r : Reader = numbers 1 0 0 0 0 n (at + 1) 3 0 0 [] [] in
+      let z : at + 1 - 1 ≡ at = omega arith in
+      stands
+      (state_piece r (omega arith) (omega arith)
+      ∙ ap (keep n (at + 1) [] 3) (stage_child r refl ∙ ap child_id z)
+      ∙ sym (ap settle (token_child S n at before t e)))
+      (id_sane 1 n (at + 1) other (omega arith) (omega arith) (omega arith)) (omega arith)
 
-  pub delete_waits : t ≡ 0x8C → Waits 3 n (at + 1) paired id r → Stands (settle (tokened S n at (before_by paired id) (token_of t))) (at + 1) r
-  delete_waits e w =
-      let z : r.at - 1 ≡ at = omega (arith, w.stands) in
-      let y : stage_in r ≡ delete_id (before_by paired id) at = stage_delete r w.stages ∙ rw (z, w.pairs, w.names) refl in
-      record { state = waits_in (omega arith) (omega arith) w ∙ rw y refl ∙ sym (ap settle (token_delete S n at (before_by paired id) t e)); sane = came w.sane }
+  pub change_waits : t ≡ 0x8A → Stands (settle (tokened S n at before (token_of t))) (at + 1) (numbers 2 0 0 (paired_id before) (paired_of before) n (at + 1) 3 0 0 [] [])
+  change_waits e =
+      let r : Reader = numbers 2 0 0 (paired_id before) (paired_of before) n (at + 1) 3 0 0 [] [] in
+      let z : at + 1 - 1 ≡ at = omega arith in
+      stands
+      (state_piece r (omega arith) (omega arith)
+      ∙ ap (keep n (at + 1) [] 3) (stage_change r refl ∙ ap (λ (x : ℕ). change_id (before_by (paired_of before) (paired_id before)) x) z ∙ ap (λ (b : Before). change_id b at) (before_back before))
+      ∙ sym (ap settle (token_change S n at before t e)))
+      (id_sane 2 n (at + 1) before (omega arith) (omega arith) (omega arith)) (omega arith)
+
+  pub delete_waits : t ≡ 0x8C → Stands (settle (tokened S n at before (token_of t))) (at + 1) (numbers 3 0 0 (paired_id before) (paired_of before) n (at + 1) 3 0 0 [] [])
+  delete_waits e =
+      let r : Reader = numbers 3 0 0 (paired_id before) (paired_of before) n (at + 1) 3 0 0 [] [] in
+      let z : at + 1 - 1 ≡ at = omega arith in
+      stands
+      (state_piece r (omega arith) (omega arith)
+      ∙ ap (keep n (at + 1) [] 3) (stage_delete r refl ∙ ap (λ (x : ℕ). delete_id (before_by (paired_of before) (paired_id before)) x) z ∙ ap (λ (b : Before). delete_id b at) (before_back before))
+      ∙ sym (ap settle (token_delete S n at before t e)))
+      (id_sane 3 n (at + 1) before (omega arith) (omega arith) (omega arith)) (omega arith)
 
 pub done_read : (n at : ℕ) → n ≤ at → Stands (finished n at) at (numbers 7 0 0 0 0 n at 0 0 0 [] [])
 done_read n at h =
@@ -262,47 +253,43 @@ done_read n at h =
     stands (state_finished r refl) (sane_late r (omega arith) (omega arith) h (omega arith) (omega arith)) refl
 
 -- Ids that are whole.
-pub follows_paired : (paired before id : ℕ) → (paired ≡ 0 → ⊥) → eqb before id ≡ follows (before_by paired before) id
-follows_paired zero before id h = absurd (h refl)
-follows_paired (suc n) before id h = refl
-
 module _ (S : List Schema) (n start : ℕ) (held : Bytes) (at : ℕ) where
-  pub child_refused : {c o : ℕ} {i : Input} → read_int held 0 4 ≡ bad c o i → settle (judge S n start held (child_id at)) ≡ stopped c (start + o) i
+  pub child_stopped : {c o : ℕ} {i : Input} → from start (read_int held 0 4) ≡ bad c o i → settle (judge S n start held (child_id at)) ≡ stopped c o i
   unfolding judge
-  child_refused e = rw e refl
+  child_stopped e = rw e refl
 
-  module _ {id : ℕ} (e : read_int held 0 4 ≡ ok id) where
-    pub child_unknown : or0 (child_number S id) ≡ 0 → settle (judge S n start held (child_id at)) ≡ stopped 10 at input.Single
+  module _ {id : ℕ} (e : from start (read_int held 0 4) ≡ ok id) where
+    pub child_unknown : child_number S id ≡ none → settle (judge S n start held (child_id at)) ≡ stopped 10 at input.Single
     unfolding judge known_child
-    child_unknown f = rw (e, number_none S id f) refl
+    child_unknown f = rw (e, f) refl
 
-    pub child_known : {k : ℕ} → k ≡ or0 (child_number S id) → (k ≡ 0 → ⊥) → settle (judge S n start held (child_id at)) ≡ settle (row_from S n (start + length held) (child_row id))
+    pub child_known : {k : ℕ} → child_number S id ≡ some k → settle (judge S n start held (child_id at)) ≡ settle (row_from S n (start + length held) (child_row id))
     unfolding judge known_child
-    child_known f g = rw (e, number_some S id f g) refl
+    child_known f = rw (e, f) refl
 
   module _ (before : Before) where
-    pub change_refused : {c o : ℕ} {i : Input} → read_int held 0 4 ≡ bad c o i → settle (judge S n start held (change_id before at)) ≡ stopped c (start + o) i
+    pub change_stopped : {c o : ℕ} {i : Input} → from start (read_int held 0 4) ≡ bad c o i → settle (judge S n start held (change_id before at)) ≡ stopped c o i
     unfolding judge
-    change_refused e = rw e refl
+    change_stopped e = rw e refl
 
-    pub delete_refused : {c o : ℕ} {i : Input} → read_int held 0 4 ≡ bad c o i → settle (judge S n start held (delete_id before at)) ≡ stopped c (start + o) i
+    pub delete_stopped : {c o : ℕ} {i : Input} → from start (read_int held 0 4) ≡ bad c o i → settle (judge S n start held (delete_id before at)) ≡ stopped c o i
     unfolding judge
-    delete_refused e = rw e refl
+    delete_stopped e = rw e refl
 
-    module _ {id : ℕ} (e : read_int held 0 4 ≡ ok id) where
+    module _ {id : ℕ} (e : from start (read_int held 0 4) ≡ ok id) where
       pub change_alone : follows before id ≡ false → settle (judge S n start held (change_id before at)) ≡ stopped 11 at input.Single
       unfolding judge check
       change_alone f = rw (e, f) refl
 
-      pub change_unknown : follows before id ≡ true → or0 (child_number S id) ≡ 0 → settle (judge S n start held (change_id before at)) ≡ stopped 10 at input.Single
+      pub change_unknown : follows before id ≡ true → child_number S id ≡ none → settle (judge S n start held (change_id before at)) ≡ stopped 10 at input.Single
       unfolding judge check known_child
-      change_unknown f g = rw (e, f, number_none S id g) refl
+      change_unknown f g = rw (e, f, g) refl
 
       pub change_known :
-          {k : ℕ} → follows before id ≡ true → k ≡ or0 (child_number S id) → (k ≡ 0 → ⊥) →
+          {k : ℕ} → follows before id ≡ true → child_number S id ≡ some k →
           settle (judge S n start held (change_id before at)) ≡ settle (row_from S n (start + length held) (change_row id))
       unfolding judge check known_child
-      change_known f g h = rw (e, f, number_some S id g h) refl
+      change_known f g = rw (e, f, g) refl
 
       pub delete_alone : follows before id ≡ false → settle (judge S n start held (delete_id before at)) ≡ stopped 11 at input.Single
       unfolding judge check
@@ -319,16 +306,13 @@ between_read n at h =
     stands (state_between r refl) (sane_between r (omega arith) (omega arith) h refl) refl
 
 -- The length in front of a field is whole.
-pub is_prefix : (stage : ℕ) → 1 ≤ stage → stage ≤ 5 → (stage ≡ 1 → ⊥) → (stage ≡ 2 → ⊥) → (stage ≡ 3 → ⊥) → (stage ≡ 4 → ⊥) → stage ≡ 5
-is_prefix stage l h a b c d = omega arith
-
 module _ (S : List Schema) (n start : ℕ) (held : Bytes) (k : Kind) (bits : Bytes) (j : ℕ) {c : Column} (same : c ≡ column_for S k j) where
-  pub prefix_refused :
-      {p o : ℕ} {i : Input} → read_int held 0 (prefix_size c) ≡ bad p o i → settle (judge S n start held (prefix k bits j)) ≡ stopped p (start + o) i
+  pub prefix_stopped :
+      {p o : ℕ} {i : Input} → from start (read_int held 0 (prefix_size c)) ≡ bad p o i → settle (judge S n start held (prefix k bits j)) ≡ stopped p o i
   unfolding judge
-  prefix_refused e = let f = rw same at e in rw f refl
+  prefix_stopped e = let f = rw same at e in rw f refl
 
-  module _ {size : ℕ} (e : read_int held 0 (prefix_size c) ≡ ok size) where
+  module _ {size : ℕ} (e : from start (read_int held 0 (prefix_size c)) ≡ ok size) where
     pub prefix_long : {code : ℕ} → code ≡ length_error c size → 0 < code → settle (judge S n start held (prefix k bits j)) ≡ stopped code start input.Single
     unfolding judge measured allowed
     prefix_long {code} f z =
@@ -348,9 +332,6 @@ module _ (S : List Schema) (n start : ℕ) (held : Bytes) (k : Kind) (bits : Byt
 
 -- The bytes of a field.
 module _ (S : List Schema) (n at size : ℕ) (k : Kind) (bits : Bytes) (j : ℕ) where
-  pub body_none : size ≡ 0 → body_of n at size k bits (suc j) (seek_from S n (at + size) k bits (suc j)) ≡ seek_from S n at k bits (j + 1)
-  body_none z = let y : at + 0 ≡ at = omega arith in rw (z, y, add-one j) refl
-
   body_some : (rest : State) → (size ≡ 0 → ⊥) → skip n at (size - 1) k bits (j + 1) ≡ body_of n at size k bits (suc j) rest
   body_some rest z = rw (add-one j) (go size z)
     where
@@ -385,47 +366,6 @@ body_started S r at size m a c z =
     stands_as (body_stands (bodied r at size) at (size - 1) (r.column + 1) refl refl refl refl m (omega arith) (omega arith))
     (body_some S r.rows at size (kind_in r) (map_in r) r.column _ z)
 
--- A byte of a piece.
-pub part_of : (bytes : Bytes) (n : ℕ) → n ≤ length bytes → (take (n - 0) (drop 0 bytes) ≡ take n bytes) × (length (take n bytes) ≡ n)
-part_of bytes n h = let z : n - 0 ≡ n = omega arith in (rw z refl, length-take-le n bytes h)
-
-one_behind : (bytes : Bytes) (n b : ℕ) → n < length bytes → take (n + 1) (set bytes n b) ≡ take n bytes ++ (b ∷ [])
-one_behind bytes n b h = rw (add-one n) (take-suc-set bytes n b h)
-
-cut_behind : (s : Bytes) (at i : ℕ) → at + i < length s → cut s at (i + 1) ≡ cut s at i ++ (get_or s (at + i) 0 ∷ [])
-cut_behind s at i h =
-    let x : at + i + 1 - at ≡ i + 1 = omega arith in
-    let y : at + i - at ≡ i = omega arith in
-    let z : at + i + 1 - (at + i) ≡ 1 = omega arith in
-    rw (x, y, z) at (cut_two s at (at + i) (at + i + 1) (omega arith) (omega arith) (omega arith)) ∙ ap (λ (l : Bytes). cut s at i ++ l) (cut_suc s (at + i) 0 h)
-
--- Bytes kept one after the other.
-pub record Keeping (bytes : Bytes) (filled : ℕ) (s : Bytes) (at n : ℕ) (next : Bytes) (i : ℕ) : Type 0 where
-  pub few : i ≤ n
-  pub kept : take (filled + i) next ≡ take filled bytes ++ cut s at i
-  pub long : length next ≡ length bytes
-
-pub keeping_start : (bytes : Bytes) (filled : ℕ) (s : Bytes) (at n : ℕ) → Keeping bytes filled s at n bytes 0
-keeping_start bytes filled s at n =
-    let z : filled + 0 ≡ filled = omega arith in
-    record { few = omega arith; kept = rw z (sym (append-nil (take filled bytes))); long = refl }
-
-pub keeping_next :
-    {bytes : Bytes} {filled : ℕ} {s : Bytes} {at n : ℕ} {next : Bytes} {i : ℕ} → Keeping bytes filled s at n next i → i < n → at + i < length s → filled + i < length bytes →
-    Keeping bytes filled s at n (set next (filled + i) (get_or s (at + i) 0)) (i + 1)
-keeping_next {bytes} {filled} {s} {at} {n} {next} {i} w f h l =
-    let z : filled + (i + 1) ≡ filled + i + 1 = omega arith in
-    record {
-      few = omega arith;
-      kept =
-          rw z
-          (one_behind next (filled + i) (get_or s (at + i) 0) (omega (arith, w.long))
-          ∙ ap (λ (x : Bytes). x ++ (get_or s (at + i) 0 ∷ [])) w.kept
-          ∙ append_assoc (take filled bytes) (cut s at i) (get_or s (at + i) 0 ∷ [])
-          ∙ ap (λ (x : Bytes). take filled bytes ++ x) (sym (cut_behind s at i h)));
-      long = length-set next (filled + i) (get_or s (at + i) 0) ∙ w.long;
-    }
-
 -- a record of a piece with so many bytes more
 abbrev pub longer : Reader → (n more : ℕ) → Bytes → Reader
 longer r n more bytes =
@@ -453,14 +393,13 @@ module _ (S : List Schema) (r : Reader) (x : Bytes) (n : ℕ) (bytes : Bytes) (l
   same_stage more = refl
 
   pub piece_whole :
-      {a : Reader} → n ≡ r.more + 1 →
-      Stands (settle (judge S r.rows r.at (held_in (longer r n r.more bytes)) (stage_in (longer r n r.more bytes)))) (r.at + (r.filled + n)) a →
-      Stands (feed S (state_in r) x) (r.at + r.filled + n) a
-  piece_whole {a} z d =
+      (a : Result Reader Error) → n ≡ r.more + 1 →
+      Reached (settle (judge S r.rows r.at (held_in (longer r n r.more bytes)) (stage_in (longer r n r.more bytes)))) (r.at + (r.filled + n)) a →
+      Reached (feed S (state_in r) x) (r.at + r.filled + n) a
+  piece_whole a z d =
       let f : r.at + (r.filled + n) ≡ r.at + r.filled + n = omega arith in
-      rw (← f)
-      (stands_as d
-      (rw (same_stage r.more, held, state_piece r first last) (sym (keep_all S r.rows r.at r.more (held_in r) x (stage_in r) (omega arith)))))
+      reached_as a d
+      (rw (same_stage r.more, held, state_piece r first last) (sym (keep_all S r.rows r.at r.more (held_in r) x (stage_in r) (omega arith)))) f
 
   pub piece_some : n ≤ r.more → Stands (feed S (state_in r) x) (r.at + r.filled + n) (longer r n (r.more - n) bytes)
   piece_some z =

@@ -1,84 +1,41 @@
 -- A record written anew, with zeros in all that its state does not need.
 -- Assumes nothing.
-use Prim.Native.Nat.{ℕ, zero, suc, ◌+◌, ◌-◌, ◌≤◌, ◌<◌}
-use mathlib.Core.List.{[], ◌∷◌, ◌++◌}
+use Prim.Native.Nat.{ℕ, ◌+◌, ◌-◌, ◌≤◌}
+use mathlib.Core.List.{[], ◌++◌, append-nil}
 use mathlib.Core.Bool.{Bool, true, false}
 use mathlib.Core.Path.{◌≡◌, refl, sym, ap, ◌∙◌}
-use native.Mathlib.Numerals.{add-one}
 use native.Mathlib.Omega.{arith}
-use lib.ListN.{length, get_or, take, set, replicate, length-append, length-take, length-set, get_or-replicate}
-use lib.Seq.{take_all, take-suc, take-suc-set, take-append_seam, get_or-append-add}
-use lib.Dec.{leb, ltb, eqb}
-use borrow.Author.Tests.{ltb-true, ltb-false, eqb-true, eqb-false, le-leb, lt-leb}
+use borrow.Rule.Slice.PartMut.{put_mid}
+use lib.ListN.{length, take, drop, replicate, length-take, length-drop, drop_of_length-le}
+use lib.Seq.{take-append-add}
+use Rattle.std.proofs.lemmas.List.{take-replicate}
+use lib.Dec.{eqb}
+use borrow.Author.Tests.{eqb-true, eqb-false}
 use Rattle.wire.specs.Read.{Bytes}
-use Rattle.grammar.specs.Grammar.{after}
 use Rattle.incremental.specs.declared.record.Reader.{Reader}
 use Rattle.incremental.specs.Record.{before_by, kind_in, held_in, map_in, state_in, state_of, sixteen, numbers}
 use Rattle.incremental.specs.Parts.{paired_as, kind_as, maps_as}
 use Rattle.incremental.proofs.StateLaws.{state_between, state_piece, state_body, state_finished, stage_child, stage_change, stage_delete, stage_maps, stage_prefix}
 
--- Room for a piece.
-pub room_told : (filled more : ℕ) → filled < 16 → ltb more (16 - filled) ≡ leb (filled + more) 15
-room_told filled more h = go (ltb more (16 - filled)) refl
-  where
-    go : (t : Bool) → ltb more (16 - filled) ≡ t → t ≡ leb (filled + more) 15
-    go true e = let l : filled + more ≤ 15 = omega (arith, ltb-true more (16 - filled) e) in sym (le-leb _ _ l)
-    go false e = let l : 15 < filled + more = omega (arith, ltb-false more (16 - filled) e) in sym (lt-leb _ _ l)
+-- The first n of sixteen bytes, and zeros.
+pub first_long : (bytes : Bytes) (n : ℕ) → length bytes ≡ 16 → n ≤ 16 → length (take n bytes) ≡ n
+first_long bytes n l h = simp length-take (omega arith)
 
-pub room_none : (filled more : ℕ) → 16 ≤ filled → leb (filled + more) 15 ≡ false
-room_none filled more h = let l : 15 < filled + more = omega arith in lt-leb _ _ l
+pub zeros_behind : (bytes : Bytes) (n : ℕ) → length bytes ≡ 16 → n ≤ 16 → take n bytes ++ replicate (16 - n) 0 ≡ sixteen (take n bytes)
+zeros_behind bytes n l h =
+    let f : length (take n bytes) ≡ n = first_long bytes n l h in
+    let z : length (take n bytes) + (16 - n) ≡ 16 = omega arith in
+    ap (λ (x : Bytes). take n bytes ++ x) (sym (take-replicate (16 - n) 16 0 (omega arith)))
+    ∙ sym (take-append-add (take n bytes) (replicate 16 0) (16 - n))
+    ∙ ap (λ (k : ℕ). take k (take n bytes ++ replicate 16 0)) z
 
--- An 87 element stands before.
-pub before_paired : (paired id : ℕ) → (paired ≡ 0 → ⊥) → before_by paired id ≡ after id
-before_paired zero id h = absurd (h refl)
-before_paired (suc n) id h = refl
-
--- The first n of sixteen bytes, with zeros behind them up to i.
-pub record Clearing (bytes : Bytes) (n : ℕ) (rest : Bytes) (i : ℕ) : Type 0 where
-  pub least : n ≤ i
-  pub most : i ≤ 16
-  pub long : length rest ≡ 16
-  pub same : take i rest ≡ take i (take n bytes ++ replicate 16 0)
-
-module _ (bytes : Bytes) (n : ℕ) (long : length bytes ≡ 16) where
-  pub first_long : n ≤ 16 → length (take n bytes) ≡ n
-  first_long h = simp length-take (omega arith)
-
-  pub clearing_start : n ≤ 16 → Clearing bytes n bytes n
-  clearing_start h =
-      record {
-        least = omega arith;
-        most = h;
-        long = long;
-        same = sym (ap (λ (k : ℕ). take k (take n bytes ++ replicate 16 0)) (sym (first_long h)) ∙ take-append_seam (take n bytes) (replicate 16 0));
-      }
-
-  pub clearing_next : {rest : Bytes} {i : ℕ} → Clearing bytes n rest i → i < 16 → Clearing bytes n (set rest i 0) (i + 1)
-  clearing_next {rest} {i} c h =
-      let f : length (take n bytes) ≡ n = first_long (omega arith) in
-      let l : length (take n bytes ++ replicate 16 0) ≡ n + 16 = length-append (take n bytes) (replicate 16 0) ∙ ap (λ (k : ℕ). k + 16) f in
-      let z : length (take n bytes) + (i - n) ≡ i = omega arith in
-      let g : get_or (take n bytes ++ replicate 16 0) i 0 ≡ 0 =
-      ap (λ (k : ℕ). get_or (take n bytes ++ replicate 16 0) k 0) (sym z)
-      ∙ get_or-append-add (take n bytes) (replicate 16 0) (i - n) 0
-      ∙ get_or-replicate 16 (i - n) 0 0 (omega arith) in
-      record {
-        least = omega arith;
-        most = omega arith;
-        long = length-set rest i 0 ∙ c.long;
-        same =
-            rw add-one
-            (take-suc-set rest i 0 (omega arith)
-            ∙ ap (λ (x : Bytes). x ++ (0 ∷ [])) c.same
-            ∙ sym
-            (take-suc (take n bytes ++ replicate 16 0) i 0 (omega arith)
-            ∙ ap (λ (k : ℕ). take i (take n bytes ++ replicate 16 0) ++ (k ∷ [])) g));
-      }
-
-  pub clearing_end : {rest : Bytes} {i : ℕ} → Clearing bytes n rest i → 16 ≤ i → rest ≡ sixteen (take n bytes)
-  clearing_end {rest} {i} c h =
-      let z : i ≡ 16 = omega arith in
-      sym (take_all 16 rest (omega arith)) ∙ (rw z at c.same)
+pub cleared_told :
+    (bytes ys : Bytes) (n : ℕ) → length bytes ≡ 16 → n ≤ 16 → ys ≡ replicate (16 - n) 0 → put_mid n (16 - n) bytes ys ≡ sixteen (take n bytes)
+cleared_told bytes ys n l h e =
+    let z : drop (16 - n) (drop n bytes) ≡ [] = drop_of_length-le (drop n bytes) (omega (arith, length-drop n bytes)) in
+    ap (λ (x : Bytes). take n bytes ++ (ys ++ x)) z
+    ∙ ap (λ (x : Bytes). take n bytes ++ x) (append-nil ys ∙ e)
+    ∙ zeros_behind bytes n l h
 
 -- A record of each stage is written as its state is.
 module _ (r : Reader) where
@@ -105,7 +62,7 @@ module _ (r : Reader) where
   tidy_delete : r.stage ≡ 3 → paired_as piece (before_by r.paired r.id) ≡ state_of (state_in r)
   tidy_delete e = rw (state_piece r (omega arith) (omega arith), stage_delete r e, e) refl
 
-  pub tidy_paired : 2 ≤ r.stage → r.stage < 4 → paired_as piece (before_by r.paired r.id) ≡ state_of (state_in r)
+  pub tidy_paired : 2 ≤ r.stage → r.stage ≤ 3 → paired_as piece (before_by r.paired r.id) ≡ state_of (state_in r)
   tidy_paired l h = go (eqb r.stage 2) refl
     where
       go : (t : Bool) → eqb r.stage 2 ≡ t → paired_as piece (before_by r.paired r.id) ≡ state_of (state_in r)

@@ -17,14 +17,15 @@ use Rattle.tree.specs.Reader.{file_of}
 use Rattle.tree.specs.Schemas.{Schema, schema, schemas_of, read_schemas, columns_of, as_column}
 use Rattle.tree.proofs.SchemaLists.{SchemasRange, no_schema, a_schema_lem, schemas_range}
 use Rattle.tree.proofs.Theorem.{file_of_iff}
-use Rattle.grammar.specs.Grammar.{Before, other, after, columns_at}
+use Rattle.grammar.specs.Grammar.{columns_at}
 use Rattle.feeding.specs.Answers.{Call, fragment, close}
-use Rattle.feeding.specs.Machine.{Kind, parent_row, child_row, change_row, child_id, change_id, delete_id, maps, prefix, State, between, keep, skip, finished, stopped, closed}
+use Rattle.feeding.specs.Machine.{child_id, change_id, delete_id, maps, prefix, State, between, keep, skip, finished, stopped, closed}
 use Rattle.feeding.specs.Feeding.{take_in, opened, completed, failed, standing, ending, file_schemas, with_file, call}
 use Rattle.feeding.specs.Feeding.{Reader as Standing}
 use Rattle.feeding.proofs.Fits.{Fits, fits_taken}
 use Rattle.feeding.proofs.Codes.{Code, Coded, CodedState, coded_taken, coded_closed, coded_file}
-use Rattle.incremental.specs.Record.{before_by, paired_of, paired_id, kind_by, kind_of, id_of, input_in, stage_in, state_in, fits, known_code, reader_in, sixteen, state_of, record_of}
+use Rattle.incremental.proofs.StateLaws.{before_back, kind_back}
+use Rattle.incremental.specs.Record.{input_in, stage_in, state_in, fits, known_code, reader_in, sixteen, state_of, record_of}
 
 -- A state that is open: its numbers fit a record, and it has not stopped.
 abbrev pub Running : State → Type 0
@@ -43,15 +44,6 @@ FitsStanding (failed code offset name) = (input_in (input_number name) ≡ name)
 -- The parts of a record.
 sixteen_back : (l : Bytes) → length l ≤ 16 → take (length l) (sixteen l) ≡ l
 sixteen_back l h = take-take (length l) 16 (l ++ replicate 16 0) h ∙ take-append_seam l (replicate 16 0)
-
-before_back : (before : Before) → before_by (paired_of before) (paired_id before) ≡ before
-before_back other = refl
-before_back (after id) = refl
-
-kind_back : (k : Kind) → kind_by (kind_of k) (id_of k) ≡ k
-kind_back parent_row = refl
-kind_back (child_row id) = refl
-kind_back (change_row id) = refl
 
 opened_back : (st : State) → Running st → Fits st → reader_in (state_of st) ≡ opened st
 unfolding reader_in fits state_in stage_in

@@ -1,5 +1,8 @@
 -- Promise: the calls of a reader: what each answers, and the record that it leaves.
 -- Assumes nothing.
+use Rattle.std.specs.Prelude.{Result, Ok, Err}
+use Rattle.wire.specs.declared.error.Error.{Error}
+use Rattle.wire.specs.Errors.{code_of}
 use Rattle.wire.specs.Read.{Bytes}
 use Rattle.feeding.specs.Answers.{Answer, going, complete, refused, fragment, close}
 use Rattle.feeding.specs.Feeding.{tell, call}
@@ -22,8 +25,8 @@ record_closed file r = record_of (call file (reader_in r) close)
 unfoldable pub answer_closed : (file : Bytes) → Reader → Answer
 answer_closed file r = tell (call file (reader_in r) close)
 
--- what a `Fed` says
-abbrev pub told_fed : Fed → Answer
-told_fed (fed.Going n) = going n
-told_fed (fed.Complete n) = complete n
-told_fed (fed.Refused code offset name) = refused code offset name
+-- what an answer says
+abbrev pub told_fed : Result Fed Error → Answer
+told_fed (Ok (fed.Going n)) = going n
+told_fed (Ok (fed.Complete n)) = complete n
+told_fed (Err e) = refused (code_of e.kind) e.offset e.input

@@ -1,11 +1,24 @@
 -- Inner: a record with one part of it written anew.
 -- Assumes nothing.
-use Rattle.std.specs.Prelude.{ℕ, length}
+use Rattle.std.specs.Prelude.{ℕ, length, Option, None, Some}
 use Rattle.wire.specs.Read.{Bytes}
-use Rattle.grammar.specs.Grammar.{Before}
-use Rattle.feeding.specs.Machine.{Kind}
+use Rattle.grammar.specs.Grammar.{Before, other, after}
+use Rattle.feeding.specs.Machine.{Kind, parent_row, child_row, change_row}
 use Rattle.incremental.specs.declared.record.Reader.{Reader}
+use Rattle.incremental.specs.declared.record.RowKind.{RowKind}
+use Rattle.incremental.specs.declared.record.RowKind.TheVariants as row_kind
 use Rattle.incremental.specs.Record.{paired_of, paired_id, kind_of, id_of, sixteen}
+
+-- what stands before the next element, by the id of an 87 element
+abbrev pub before_told : Option ℕ → Before
+before_told None = other
+before_told (Some id) = after id
+
+-- row data in progress, as the machine has them
+abbrev pub kind_told : RowKind → Kind
+kind_told row_kind.Parent = parent_row
+kind_told (row_kind.Child id) = child_row id
+kind_told (row_kind.Change id) = change_row id
 
 -- what stands before the next element
 abbrev pub paired_as : Reader → Before → Reader

@@ -68,6 +68,10 @@ state_in r =
     (pick (eqb r.stage 6) (skip r.rows r.at r.more (kind_in r) (map_in r) r.column)
     (pick (eqb r.stage 7) (finished r.rows r.at) (stopped r.code r.at input.Single))))
 
+-- a token stands before what is kept, which has room
+abbrev pub has_room : Reader → Bool
+has_room r = pick (leb 1 r.at) (pick (ltb r.column 64) (leb (r.filled + r.more) 15) false) false
+
 -- A record of a state that calls come to: no more rows than bytes, no more bytes than the limit, and what is kept has room.
 unfoldable pub fits : Reader → Bool
 fits r =
@@ -76,7 +80,7 @@ fits r =
     (pick (leb r.mapped 16)
     (pick (leb r.column 64)
     (pick (leb 1 r.stage)
-    (pick (leb r.stage 5) (pick (leb 1 r.at) (pick (ltb r.column 64) (leb (r.filled + r.more) 15) false) false) true)
+    (pick (leb r.stage 5) (has_room r) true)
     true)
     false)
     false)

@@ -4,9 +4,10 @@ ghost use Rattle.incremental.specs.Calls.{record_fed, answer_fed, record_closed,
 
 use crate::feed::{Fed, close_step, feed_step};
 use crate::record::Reader;
+use wire::error::Error;
 
 // Feeds a fragment to a reader.
-pub fn feed(file: &[u8], reader: &mut Reader, fragment: &[u8]) -> Fed
+pub fn feed(file: &[u8], reader: &mut Reader, fragment: &[u8]) -> Result<Fed, Error>
     ensures { (reader.new ≡ record_fed file.now reader.old fragment.now) × (told_fed result ≡ answer_fed file.now reader.old fragment.now) }
 {
     let next = feed_step(file, *reader, fragment);
@@ -15,7 +16,8 @@ pub fn feed(file: &[u8], reader: &mut Reader, fragment: &[u8]) -> Fed
 }
 
 // Ends the input of a reader.
-pub fn close(file: &[u8], reader: &mut Reader) -> Fed
+// Kept: two calls, as the C interface names them; a closure for the step is no plainer.
+pub fn close(file: &[u8], reader: &mut Reader) -> Result<Fed, Error>
     ensures { (reader.new ≡ record_closed file.now reader.old) × (told_fed result ≡ answer_closed file.now reader.old) }
 {
     let next = close_step(file, *reader);

@@ -7,4 +7,5 @@ pub mod fields;
 pub mod lent;
 pub mod pieces;
 pub mod record;
+pub mod sheet;
 pub mod take;

@@ -1,389 +1,302 @@
 // Pieces that are whole: ids, maps, lengths. Each is judged by the layer that knows it.
-ghost use Rattle.std.specs.Prelude.{◌≡◌, suc, ◌+◌, ◌-◌, ◌≤◌, ◌<◌, [], ◌∷◌, ◌++◌, map, true, false, length, get_or, take};
-ghost use Rattle.wire.specs.declared.error.Input.TheVariants as input;
-ghost use Rattle.wire.specs.Errors.{code_of};
-ghost use Rattle.wire.specs.Read.{ok, cut};
-ghost use Rattle.wire.specs.Integers.{read_int, told_int};
-ghost use Rattle.column.specs.Columns.{prefix_size};
-ghost use Rattle.column.specs.Layout.{columns_in};
-ghost use Rattle.walk.specs.Data.{data_opened};
-ghost use Rattle.tree.specs.Schemas.{as_column};
-ghost use Rattle.tree.specs.Table.{entries_in, schemas_in};
-ghost use Rattle.walk.specs.Presence.{no_column, presence_bytes};
+ghost use Rattle.std.specs.Prelude.{◌≡◌, suc, ◌+◌, ◌-◌, ◌≤◌, ◌<◌, [], ◌++◌, map, List, true, false, length, take, IfErr};
+ghost use Rattle.wire.specs.Read.{ok, told};
+ghost use Rattle.wire.specs.Integers.{read_int};
+ghost use Rattle.tree.specs.Schemas.{Schema, as_column};
+ghost use Rattle.tree.specs.Table.{entries_in};
+ghost use Rattle.walk.specs.Presence.{presence_bytes};
 ghost use Rattle.walk.specs.Rows.{opened};
-ghost use Rattle.shapes.specs.Shapes.{Sound};
 ghost use Rattle.grammar.specs.Reader.{token_of, follows};
-ghost use Rattle.feeding.specs.Machine.{stopped, keep, settle, column_for, map_size, body_of, seek_from, mapped, row_from, tokened, judge, feed, child_id, change_id, delete_id, maps, prefix};
-ghost use Rattle.incremental.specs.Record.{before_by, kind_by, kind_in, held_in, map_in, stage_in, state_in};
-ghost use Rattle.incremental.specs.Steps.{Columns, Sane, Stands};
+ghost use Rattle.feeding.specs.Machine.{from, settle, column_for, map_size, body_of, seek_from, mapped, row_from, tokened, judge, feed, child_id, change_id, delete_id, prefix};
+ghost use Rattle.incremental.specs.Parts.{before_told, kind_told};
+ghost use Rattle.incremental.specs.Record.{before_by, kind_in, held_in, map_in, stage_in, state_in, numbers, paired_of, paired_id};
+ghost use Rattle.incremental.specs.Steps.{schemas_of, Sane, Whole, Stands, Reached};
 
-use crate::fields::{bits_before, block_of, seek};
+use crate::fields::{Block, bits_before, block_of, seek};
 use crate::record::{
-    BETWEEN, BODY, CHANGE_ID, CHILD_ID, DELETE_ID, FINISHED, MAPS, PREFIX, Reader, SECTION, plain,
-    refusal,
+    BETWEEN, BODY, CHANGE_ID, CHILD_ID, DELETE_ID, FINISHED, MAPS, Reader, RowKind, plain,
 };
-use column::column::{Column, LengthCheck};
-use column::columns::Columns;
+use crate::sheet::Sheet;
+use column::column::Column;
 use column::field::length_at;
 use column::packed::unpack;
-use row::rows::{is_chapter_set, one};
+use row::rows::is_chapter_set;
 use schema::children::child_number;
 use schema::columns::columns_in;
 use section::heads::{CHANGE, CHILD, DELETE, DONE, PARENT};
 use update::data::open_data;
 use wire::bits::map_bytes;
-use wire::error::Error;
-use wire::integer::{IntRead, u32_at};
+use wire::error::{Error, ErrorKind};
+use wire::integer::u32_at;
 
-// A refusal, from here on.
-pub(crate) fn stop(code: u32, offset: usize) -> Reader
-    ensures { Stands (stopped code offset input.Single) offset result }
+// What is read of a piece by itself, where the piece stands at `start`.
+fn from<T>(start: usize, answer: Result<T, Error>) -> Result<T, Error>
+    requires { (start ≤ 16777216) × IfErr answer (λ e. e.offset ≤ 16777216) }
+    ensures { told result ≡ from start (told answer) }
 {
-    refusal(code, offset, SECTION)
-}
-
-// The refusal that an error of a piece at `start` is.
-fn stop_at(e: Error, start: usize) -> Reader
-    requires { (e.offset ≤ 16777216) × (start ≤ 16777216) }
-    ensures { Stands (stopped (code_of e.kind) (start + e.offset) input.Single) (start + e.offset) result }
-{
-    let kind = e.kind;
-    stop(kind.code(), start + e.offset)
-}
-
-// The maps of row data, in so many bytes of a piece: whether they keep their rules.
-fn maps_in(columns: Columns, update: bool, held: &[u8; 16], filled: usize) -> IntRead
-    requires { filled ≤ 16 }
-    ensures { (told_int result ≡ data_opened update (columns_in columns) (take filled held.now) 0) × (length (take filled held.now) ≡ filled) }
-{
-    let bytes: &[u8] = held;
-    open_data(columns, update, &bytes[0..filled], 0)
+    answer.map_err(|e| Error {
+        offset: start + e.offset,
+        ..e
+    })
 }
 
 // Whether a presence map is whole and has no chapter's bit set.
-fn opens(slots: &[u64; 512], first: usize, count: usize, bits: &[u8]) -> bool
-    requires { (first + count ≤ 256) × (count ≤ 64) }
-    ensures { result ≡ true → opened (map as_column (entries_in first count slots.now)) bits.now 0 ≡ ok (presence_bytes (map as_column (entries_in first count slots.now))) }
+#[tactic(auto, using(shapes::proofs::Slots::in_slots, shapes::proofs::Slots::length_slots, shapes::proofs::Slots::slot_at, crate::proofs::FieldLaws::slot_counted, crate::proofs::PieceLaws::opening_start, crate::proofs::PieceLaws::opening_next, crate::proofs::PieceLaws::opening_end))]
+fn opens(slots: &[u64; 512], block: Block, bits: &[u8]) -> bool
+    requires { (block.first + block.count ≤ 256) × (block.count ≤ 64) }
+    ensures { result ≡ true → opened (map as_column (entries_in block.first block.count slots.now)) bits.now 0 ≡ ok (presence_bytes (map as_column (entries_in block.first block.count slots.now))) }
 {
     let mut bit = 0;
-    let mut i = 0;
-    while i < count {
-        let column = unpack(slots[first + i] as usize);
+    for i in 0..block.count {
+        let column = unpack(slots[block.first + i] as usize);
         if is_chapter_set(column, bit, bits) {
             return false;
         }
-        bit += one(column.is_nullable());
-        i += 1;
+        bit += usize::from(column.is_nullable());
     }
     map_bytes(bit) <= bits.len()
 }
 
-// Whether the maps of row data are a presence map that is seen to keep its rules, in so many bytes of a piece.
-fn is_open(
-    slots: &[u64; 512],
-    first: usize,
-    count: usize,
-    update: bool,
-    held: &[u8; 16],
-    filled: usize,
-) -> bool
-    requires { (first + count ≤ 256) × (count ≤ 64) × (filled ≤ 16) }
-    ensures { (result ≡ true → (update ≡ false) × (opened (map as_column (entries_in first count slots.now)) (take filled held.now) 0 ≡ ok (presence_bytes (map as_column (entries_in first count slots.now))))) × (length (take filled held.now) ≡ filled) }
-{
-    let bytes: &[u8] = held;
-    if update {
-        return false;
-    }
-    opens(slots, first, count, &bytes[0..filled])
-}
-
 // The fields of row data whose maps are the piece that is whole.
-fn from_maps(slots: &[u64; 512], schemas: usize, r: Reader) -> Reader
-    requires { Sound slots.now schemas × (r.filled ≤ 16) × (r.rows < r.at + r.filled) × (r.at + r.filled ≤ 16777216) }
-    ensures { Stands (seek_from (schemas_in 0 schemas slots.now) r.rows (r.at + r.filled) (kind_in r) (held_in r) 0) (r.at + r.filled) result }
+fn from_maps(sheet: &Sheet, r: &Reader) -> Reader
+    requires { Whole r.now }
+    ensures { Stands (seek_from (schemas_of sheet.now) r.now.rows (r.now.at + r.now.filled) (kind_in r.now) (held_in r.now) 0) (r.now.at + r.now.filled) result }
 {
-    let held = r.held;
-    let filled = r.filled;
-    let mut row = r;
-    row.map = held;
-    row.mapped = filled;
-    seek(slots, schemas, row, r.at + filled, 0)
+    let row = Reader {
+        map: r.held,
+        mapped: r.filled,
+        ..*r
+    };
+    seek(sheet, &row, r.at + r.filled, 0)
 }
 
 // The maps of row data are whole: their rules, then the fields.
-fn open_maps(slots: &[u64; 512], schemas: usize, r: Reader) -> Reader
-    requires { Sound slots.now schemas × (r.filled ≤ 16) × (r.rows < r.at + r.filled) × (r.at + r.filled ≤ 16777216) }
-    ensures { Stands (settle (mapped (schemas_in 0 schemas slots.now) r.rows r.at (held_in r) (kind_in r))) (r.at + r.filled) result }
+#[tactic(auto, using(crate::proofs::PieceLaws::data_early, crate::proofs::PieceLaws::columns_open, crate::proofs::PieceLaws::map_opened, crate::proofs::PieceLaws::maps_stopped, crate::proofs::PieceLaws::maps_kept, crate::proofs::PieceLaws::reached_exit))]
+fn open_maps(sheet: &Sheet, r: &Reader) -> Result<Reader, Error>
+    requires { Whole r.now }
+    ensures { Reached (settle (mapped (schemas_of sheet.now) r.now.rows r.now.at (held_in r.now) (kind_in r.now))) (r.now.at + r.now.filled) result }
 {
-    let block = block_of(slots, schemas, r.kind, r.id);
-    let update = r.kind == 3;
-    let held = r.held;
-    let filled = r.filled;
-    if is_open(slots, block.first, block.count, update, &held, filled) {
-        return from_maps(slots, schemas, r);
+    let kind = r.row_kind();
+    let block = block_of(sheet, kind);
+    let update = kind.is_update();
+    let piece = r.piece();
+    if update || !opens(sheet.slots, block, piece) {
+        let columns = columns_in(sheet.slots, block.first, block.count);
+        from(r.at, open_data(columns, update, piece, 0))?;
     }
-    let columns = columns_in(slots, block.first, block.count);
-    match maps_in(columns, update, &held, filled) {
-        IntRead::Refused(e) => stop_at(e, r.at),
-        IntRead::Int(_) => from_maps(slots, schemas, r),
-    }
+    Ok(from_maps(sheet, r))
 }
 
-// The bytes of the maps of row data of a kind.
-fn maps_size(slots: &[u64; 512], schemas: usize, kind: usize, id: usize) -> usize
-    requires { Sound slots.now schemas }
-    ensures { (result ≡ map_size (schemas_in 0 schemas slots.now) (kind_by kind id)) × (result ≤ 16) }
+// The bytes of the maps of row data.
+fn maps_size(sheet: &Sheet, kind: RowKind) -> usize
+    ensures { (result ≡ map_size (schemas_of sheet.now) (kind_told kind)) × (result ≤ 16) }
 {
-    let block = block_of(slots, schemas, kind, id);
-    if kind == 3 {
-        return 2 * map_bytes(block.count);
+    let block = block_of(sheet, kind);
+    if kind.is_update() {
+        2 * map_bytes(block.count)
+    } else {
+        map_bytes(bits_before(sheet.slots, block, block.count))
     }
-    map_bytes(bits_before(slots, block.first, block.count, block.count))
 }
 
 // Row data that start at `at`; there may be no map.
-fn start_row(
-    slots: &[u64; 512],
-    schemas: usize,
-    rows: usize,
-    at: usize,
-    kind: usize,
-    id: usize,
-) -> Reader
-    requires { Sound slots.now schemas × (rows < at) × (at ≤ 16777216) }
-    ensures { Stands (settle (row_from (schemas_in 0 schemas slots.now) rows at (kind_by kind id))) at result }
+fn start_row(sheet: &Sheet, rows: usize, at: usize, kind: RowKind) -> Result<Reader, Error>
+    requires { (rows < at) × (at ≤ 16777216) }
+    ensures { Reached (settle (row_from (schemas_of sheet.now) rows at (kind_told kind))) at result }
 {
-    let size = maps_size(slots, schemas, kind, id);
-    let mut row = plain(MAPS, rows, at);
-    row.kind = kind;
-    row.id = id;
-    if size == 0 {
-        return open_maps(slots, schemas, row);
+    let row = plain(MAPS, rows, at).of_kind(kind);
+    match maps_size(sheet, kind) {
+        0 => open_maps(sheet, &row),
+        size => Ok(Reader {
+            more: size - 1,
+            ..row
+        }),
     }
-    row.more = size - 1;
-    row
 }
 
 // An id behind a token.
-fn start_id(stage: u32, rows: usize, at: usize, paired: usize, id: usize) -> Reader
-    requires { (1 ≤ stage) × (stage ≤ 3) × (rows < at) }
-    ensures { (result.stage ≡ stage) × (result.rows ≡ rows) × (result.at ≡ at) × (result.paired ≡ paired) × (result.id ≡ id) × (result.more ≡ 3) × (result.filled ≡ 0) × Sane result at }
+fn start_id(stage: u32, rows: usize, at: usize, before: Option<usize>) -> Reader
+    ensures { result ≡ numbers stage 0 0 (paired_id (before_told before)) (paired_of (before_told before)) rows at 3 0 0 [] [] }
 {
-    let mut piece = plain(stage, rows, at);
-    piece.more = 3;
-    piece.paired = paired;
-    piece.id = id;
-    piece
-}
-
-// A token.
-pub(crate) fn read_token(
-    slots: &[u64; 512],
-    schemas: usize,
-    rows: usize,
-    at: usize,
-    paired: usize,
-    id: usize,
-    token: u8,
-) -> Reader
-    requires { Sound slots.now schemas × (rows ≤ at) × (at < 16777216) }
-    ensures { Stands (settle (tokened (schemas_in 0 schemas slots.now) rows at (before_by paired id) (token_of token))) (at + 1) result }
-{
-    match token {
-        PARENT => start_row(slots, schemas, rows, at + 1, 1, 0),
-        CHILD => start_id(CHILD_ID, rows, at + 1, 0, 0),
-        CHANGE => start_id(CHANGE_ID, rows, at + 1, paired, id),
-        DELETE => start_id(DELETE_ID, rows, at + 1, paired, id),
-        DONE => plain(FINISHED, rows, at + 1),
-        _ => stop(9, at),
+    Reader {
+        more: 3,
+        ..plain(stage, rows, at).behind(before)
     }
 }
 
-// The id in so many bytes of a piece.
-fn id_in(held: &[u8; 16], filled: usize) -> IntRead
-    requires { filled ≤ 16 }
-    ensures { (told_int result ≡ read_int (take filled held.now) 0 4) × (length (take filled held.now) ≡ filled) }
+// A token.
+#[tactic(auto, using(crate::proofs::PieceLaws::child_waits, crate::proofs::PieceLaws::change_waits, crate::proofs::PieceLaws::delete_waits, crate::proofs::PieceLaws::done_read, crate::proofs::PieceLaws::token_parent, crate::proofs::PieceLaws::token_done, crate::proofs::PieceLaws::token_unknown))]
+pub(crate) fn read_token(
+    sheet: &Sheet,
+    rows: usize,
+    at: usize,
+    before: Option<usize>,
+    token: u8,
+) -> Result<Reader, Error>
+    requires { (rows ≤ at) × (at < 16777216) }
+    ensures { Reached (settle (tokened (schemas_of sheet.now) rows at (before_told before) (token_of token))) (at + 1) result }
 {
-    let bytes: &[u8] = held;
-    u32_at(&bytes[0..filled], 0)
+    match token {
+        PARENT => start_row(sheet, rows, at + 1, RowKind::Parent),
+        CHILD => Ok(start_id(CHILD_ID, rows, at + 1, None)),
+        CHANGE => Ok(start_id(CHANGE_ID, rows, at + 1, before)),
+        DELETE => Ok(start_id(DELETE_ID, rows, at + 1, before)),
+        DONE => Ok(plain(FINISHED, rows, at + 1)),
+        _ => Err(Error::at(ErrorKind::UnknownToken, at)),
+    }
+}
+
+// The id in a piece that is whole.
+#[tactic(auto, using(crate::proofs::PieceLaws::int_early))]
+fn id_in(r: &Reader) -> Result<usize, Error>
+    requires { (r.now.filled ≤ 16) × (r.now.at ≤ 16777216) }
+    ensures { (told result ≡ from r.now.at (read_int (held_in r.now) 0 4)) × (length (held_in r.now) ≡ r.now.filled) }
+{
+    from(r.at, u32_at(r.piece(), 0))
 }
 
 // The id of an 87 element is whole.
-fn judge_child(slots: &[u64; 512], schemas: usize, r: Reader) -> Reader
-    requires { Sound slots.now schemas × (r.filled ≤ 16) × (r.rows < r.at + r.filled) × (1 ≤ r.at) × (r.at + r.filled ≤ 16777216) }
-    ensures { Stands (settle (judge (schemas_in 0 schemas slots.now) r.rows r.at (held_in r) (child_id (r.at - 1)))) (r.at + r.filled) result }
+#[tactic(auto, using(crate::proofs::PieceLaws::child_stopped, crate::proofs::PieceLaws::child_unknown, crate::proofs::PieceLaws::child_known, crate::proofs::PieceLaws::reached_exit))]
+fn judge_child(sheet: &Sheet, r: &Reader) -> Result<Reader, Error>
+    requires { Whole r.now }
+    ensures { Reached (settle (judge (schemas_of sheet.now) r.now.rows r.now.at (held_in r.now) (child_id (r.now.at - 1)))) (r.now.at + r.now.filled) result }
 {
-    let held = r.held;
-    let filled = r.filled;
-    match id_in(&held, filled) {
-        IntRead::Refused(e) => stop_at(e, r.at),
-        IntRead::Int(id) => {
-            if child_number(slots, schemas, id as u64) == 0 {
-                return stop(10, r.at - 1);
-            }
-            start_row(slots, schemas, r.rows, r.at + filled, 2, id)
-        }
+    let id = id_in(r)?;
+    match child_number(sheet.slots, sheet.schemas, id as u64) {
+        None => Err(Error::at(ErrorKind::UnknownId, r.at - 1)),
+        Some(_) => start_row(sheet, r.rows, r.at + r.filled, RowKind::Child(id)),
     }
 }
 
 // Whether an 87 element with the id stands directly before.
-fn follows(paired: usize, before: usize, id: usize) -> bool
-    ensures { result ≡ follows (before_by paired before) id }
+fn follows(before: Option<usize>, id: usize) -> bool
+    ensures { result ≡ follows (before_told before) id }
 {
-    if paired == 0 {
-        return false;
-    }
-    before == id
+    before == Some(id)
 }
 
 // That of an 8A element.
-fn judge_change(slots: &[u64; 512], schemas: usize, r: Reader) -> Reader
-    requires { Sound slots.now schemas × (r.filled ≤ 16) × (r.rows < r.at + r.filled) × (1 ≤ r.at) × (r.at + r.filled ≤ 16777216) }
-    ensures { Stands (settle (judge (schemas_in 0 schemas slots.now) r.rows r.at (held_in r) (change_id (before_by r.paired r.id) (r.at - 1)))) (r.at + r.filled) result }
+#[tactic(auto, using(crate::proofs::PieceLaws::change_stopped, crate::proofs::PieceLaws::change_alone, crate::proofs::PieceLaws::change_unknown, crate::proofs::PieceLaws::change_known, crate::proofs::PieceLaws::reached_exit))]
+fn judge_change(sheet: &Sheet, r: &Reader) -> Result<Reader, Error>
+    requires { Whole r.now }
+    ensures { Reached (settle (judge (schemas_of sheet.now) r.now.rows r.now.at (held_in r.now) (change_id (before_by r.now.paired r.now.id) (r.now.at - 1)))) (r.now.at + r.now.filled) result }
 {
-    let held = r.held;
-    let filled = r.filled;
-    match id_in(&held, filled) {
-        IntRead::Refused(e) => stop_at(e, r.at),
-        IntRead::Int(id) => {
-            if !follows(r.paired, r.id, id) {
-                return stop(11, r.at - 1);
-            }
-            if child_number(slots, schemas, id as u64) == 0 {
-                return stop(10, r.at - 1);
-            }
-            start_row(slots, schemas, r.rows, r.at + filled, 3, id)
-        }
+    let id = id_in(r)?;
+    if !follows(r.before(), id) {
+        return Err(Error::at(ErrorKind::Unpaired, r.at - 1));
+    }
+    match child_number(sheet.slots, sheet.schemas, id as u64) {
+        None => Err(Error::at(ErrorKind::UnknownId, r.at - 1)),
+        Some(_) => start_row(sheet, r.rows, r.at + r.filled, RowKind::Change(id)),
     }
 }
 
 // That of an 8C element.
-fn judge_delete(slots: &[u64; 512], schemas: usize, r: Reader) -> Reader
-    requires { Sound slots.now schemas × (r.filled ≤ 16) × (r.rows < r.at + r.filled) × (1 ≤ r.at) × (r.at + r.filled ≤ 16777216) }
-    ensures { Stands (settle (judge (schemas_in 0 schemas slots.now) r.rows r.at (held_in r) (delete_id (before_by r.paired r.id) (r.at - 1)))) (r.at + r.filled) result }
+#[tactic(auto, using(crate::proofs::PieceLaws::delete_stopped, crate::proofs::PieceLaws::delete_alone, crate::proofs::PieceLaws::delete_read, crate::proofs::PieceLaws::between_read, crate::proofs::PieceLaws::reached_exit))]
+fn judge_delete(r: &Reader) -> Result<Reader, Error>
+    requires { Whole r.now }
+    ensures { (S : List Schema) → Reached (settle (judge S r.now.rows r.now.at (held_in r.now) (delete_id (before_by r.now.paired r.now.id) (r.now.at - 1)))) (r.now.at + r.now.filled) result }
 {
-    let held = r.held;
-    let filled = r.filled;
-    match id_in(&held, filled) {
-        IntRead::Refused(e) => stop_at(e, r.at),
-        IntRead::Int(id) => {
-            if !follows(r.paired, r.id, id) {
-                return stop(11, r.at - 1);
-            }
-            plain(BETWEEN, r.rows, r.at + filled)
+    let id = id_in(r)?;
+    if !follows(r.before(), id) {
+        return Err(Error::at(ErrorKind::Unpaired, r.at - 1));
+    }
+    Ok(plain(BETWEEN, r.rows, r.at + r.filled))
+}
+
+// Column `j` of row data; past the last one of no type.
+// Kept: (a) `column_for` of the machine has this column there.
+#[tactic(auto, using(shapes::proofs::Slots::slot_at, crate::proofs::PieceLaws::column_in_lem, crate::proofs::PieceLaws::column_past))]
+fn column_at(sheet: &Sheet, kind: RowKind, j: usize) -> Column
+    ensures { result ≡ column_for (schemas_of sheet.now) (kind_told kind) j }
+{
+    let block = block_of(sheet, kind);
+    if j < block.count {
+        unpack(sheet.slots[block.first + j] as usize)
+    } else {
+        Column {
+            code: 0,
+            flags: 0,
+            maximum: 0,
         }
     }
 }
 
-// Column `j` of row data of a kind; past the last none.
-fn column_at(slots: &[u64; 512], schemas: usize, kind: usize, id: usize, j: usize) -> Column
-    requires { Sound slots.now schemas }
-    ensures { result ≡ column_for (schemas_in 0 schemas slots.now) (kind_by kind id) j }
-{
-    let block = block_of(slots, schemas, kind, id);
-    let first = block.first;
-    if j < block.count {
-        return unpack(slots[first + j] as usize);
-    }
-    Column {
-        code: 0,
-        flags: 0,
-        maximum: 0,
-    }
-}
-
 // The length in front of a field of column `j` is whole, and allowed: its bytes come next.
-fn start_body(slots: &[u64; 512], schemas: usize, r: Reader, at: usize, size: usize) -> Reader
-    requires { Sound slots.now schemas × (r.mapped ≤ 16) × (r.rows < at) × (at ≤ 16777216) × (r.column < 64) }
-    ensures { Stands (body_of r.rows at size (kind_in r) (map_in r) (suc r.column) (seek_from (schemas_in 0 schemas slots.now) r.rows (at + size) (kind_in r) (map_in r) (suc r.column))) at result }
+#[tactic(auto, using(crate::proofs::PieceLaws::body_started))]
+fn start_body(sheet: &Sheet, r: &Reader, at: usize, size: usize) -> Reader
+    requires { (r.now.mapped ≤ 16) × (r.now.rows < at) × (at ≤ 16777216) × (r.now.column < 64) }
+    ensures { Stands (body_of r.now.rows at size (kind_in r.now) (map_in r.now) (suc r.now.column) (seek_from (schemas_of sheet.now) r.now.rows (at + size) (kind_in r.now) (map_in r.now) (suc r.now.column))) at result }
 {
     if size == 0 {
-        return seek(slots, schemas, r, at, r.column + 1);
+        seek(sheet, r, at, r.column + 1)
+    } else {
+        Reader {
+            stage: BODY,
+            at,
+            more: size - 1,
+            column: r.column + 1,
+            ..*r
+        }
     }
-    let mut next = r;
-    next.stage = BODY;
-    next.at = at;
-    next.more = size - 1;
-    next.column = r.column + 1;
-    next
-}
-
-// The length in front of a field, in so many bytes of a piece.
-fn length_in(column: Column, held: &[u8; 16], filled: usize) -> IntRead
-    requires { filled ≤ 16 }
-    ensures { (told_int result ≡ read_int (take filled held.now) 0 (prefix_size column)) × (length (take filled held.now) ≡ filled) }
-{
-    let bytes: &[u8] = held;
-    length_at(column, &bytes[0..filled], 0)
 }
 
 // The length in front of a field is whole.
-fn judge_prefix(slots: &[u64; 512], schemas: usize, r: Reader) -> Reader
-    requires { Sound slots.now schemas × (r.filled ≤ 16) × (r.rows < r.at + r.filled) × (1 ≤ r.at) × (r.at + r.filled ≤ 16777216) × (r.mapped ≤ 16) × (r.column < 64) }
-    ensures { Stands (settle (judge (schemas_in 0 schemas slots.now) r.rows r.at (held_in r) (prefix (kind_in r) (map_in r) r.column))) (r.at + r.filled) result }
+#[tactic(auto, using(column::proofs::Laws::code_positive, crate::proofs::PieceLaws::int_early, crate::proofs::PieceLaws::prefix_stopped, crate::proofs::PieceLaws::prefix_long, crate::proofs::PieceLaws::prefix_read, crate::proofs::PieceLaws::reached_exit))]
+fn judge_prefix(sheet: &Sheet, r: &Reader) -> Result<Reader, Error>
+    requires { Whole r.now × (r.now.mapped ≤ 16) × (r.now.column < 64) }
+    ensures { Reached (settle (judge (schemas_of sheet.now) r.now.rows r.now.at (held_in r.now) (prefix (kind_in r.now) (map_in r.now) r.now.column))) (r.now.at + r.now.filled) result }
 {
-    let column = column_at(slots, schemas, r.kind, r.id, r.column);
-    let held = r.held;
-    let filled = r.filled;
-    match length_in(column, &held, filled) {
-        IntRead::Refused(e) => stop_at(e, r.at),
-        IntRead::Int(size) => match column.length_error(size) {
-            LengthCheck::Refused(kind) => stop(kind.code(), r.at),
-            LengthCheck::Allowed => start_body(slots, schemas, r, r.at + filled, size),
-        },
+    let column = column_at(sheet, r.row_kind(), r.column);
+    let size = from(r.at, length_at(column, r.piece(), 0))?;
+    match column.length_error(size) {
+        Err(kind) => Err(Error::at(kind, r.at)),
+        Ok(()) => Ok(start_body(sheet, r, r.at + r.filled, size)),
     }
 }
 
 // A piece is whole.
-fn judge(slots: &[u64; 512], schemas: usize, r: Reader) -> Reader
-    requires { Sound slots.now schemas × (r.filled ≤ 16) × (r.rows < r.at + r.filled) × (1 ≤ r.at) × (r.at + r.filled ≤ 16777216) × (r.mapped ≤ 16) × (r.column < 64) × (1 ≤ r.stage) × (r.stage ≤ 5) }
-    ensures { Stands (settle (judge (schemas_in 0 schemas slots.now) r.rows r.at (held_in r) (stage_in r))) (r.at + r.filled) result }
+#[tactic(auto, using(crate::proofs::StateLaws::stage_child, crate::proofs::StateLaws::stage_change, crate::proofs::StateLaws::stage_delete, crate::proofs::StateLaws::stage_maps, crate::proofs::StateLaws::stage_prefix, crate::proofs::PieceLaws::maps_judged))]
+fn judge(sheet: &Sheet, r: &Reader) -> Result<Reader, Error>
+    requires { Whole r.now × (r.now.mapped ≤ 16) × (r.now.column < 64) × (1 ≤ r.now.stage) × (r.now.stage ≤ 5) }
+    ensures { Reached (settle (judge (schemas_of sheet.now) r.now.rows r.now.at (held_in r.now) (stage_in r.now))) (r.now.at + r.now.filled) result }
 {
-    let stage = r.stage;
-    match stage {
-        CHILD_ID => judge_child(slots, schemas, r),
-        CHANGE_ID => judge_change(slots, schemas, r),
-        DELETE_ID => judge_delete(slots, schemas, r),
-        MAPS => open_maps(slots, schemas, r),
-        _ => judge_prefix(slots, schemas, r),
+    match r.stage {
+        CHILD_ID => judge_child(sheet, r),
+        CHANGE_ID => judge_change(sheet, r),
+        DELETE_ID => judge_delete(r),
+        MAPS => open_maps(sheet, r),
+        _ => judge_prefix(sheet, r),
     }
 }
 
-// So many bytes of a fragment behind those of a piece.
-fn with_bytes(bytes: [u8; 16], filled: usize, fragment: &[u8], at: usize, n: usize) -> [u8; 16]
-    requires { (filled + n ≤ 16) × (at + n ≤ length fragment.now) × (at ≤ 16777216) }
-    ensures { take (filled + n) result ≡ take filled bytes ++ cut fragment.now at n }
+// The bytes of a part behind those of a piece.
+fn with_bytes(bytes: [u8; 16], filled: usize, part: &[u8]) -> [u8; 16]
+    requires { filled + length part.now ≤ 16 }
+    ensures { take (filled + length part.now) result ≡ take filled bytes ++ part.now }
 {
     let mut next = bytes;
-    let mut i = 0;
-    while i < n {
-        next[filled + i] = fragment[at + i];
-        i += 1;
-    }
+    next[filled..filled + part.len()].copy_from_slice(part);
     next
 }
 
 // So many bytes more of a piece, which has room for them.
-pub(crate) fn keep_bytes(
-    slots: &[u64; 512],
-    schemas: usize,
-    r: Reader,
-    fragment: &[u8],
-    at: usize,
-    n: usize,
-) -> Reader
-    requires { Sound slots.now schemas × (1 ≤ r.stage) × (r.stage ≤ 5) × Sane r (r.at + r.filled) × (r.at + r.filled + n ≤ 16777216) × (1 ≤ n) × (n ≤ r.more + 1) × (at + n ≤ length fragment.now) × (at ≤ 16777216) }
-    ensures { Stands (feed (schemas_in 0 schemas slots.now) (state_in r) (cut fragment.now at n)) (r.at + r.filled + n) result }
+#[tactic(auto, using(crate::proofs::PieceLaws::piece_whole, crate::proofs::PieceLaws::piece_some))]
+pub(crate) fn keep_bytes(sheet: &Sheet, r: &Reader, part: &[u8]) -> Result<Reader, Error>
+    requires { (1 ≤ r.now.stage) × (r.now.stage ≤ 5) × Sane r.now (r.now.at + r.now.filled) × (r.now.at + r.now.filled + length part.now ≤ 16777216) × (1 ≤ length part.now) × (length part.now ≤ r.now.more + 1) }
+    ensures { Reached (feed (schemas_of sheet.now) (state_in r.now) part.now) (r.now.at + r.now.filled + length part.now) result }
 {
-    let held = r.held;
-    let filled = r.filled;
-    let more = with_bytes(held, filled, fragment, at, n);
-    let mut next = r;
-    next.held = more;
-    next.filled = filled + n;
-    if r.more < n {
-        return judge(slots, schemas, next);
+    let next = Reader {
+        held: with_bytes(r.held, r.filled, part),
+        filled: r.filled + part.len(),
+        ..*r
+    };
+    if r.more < part.len() {
+        judge(sheet, &next)
+    } else {
+        Ok(Reader {
+            more: r.more - part.len(),
+            ..next
+        })
     }
-    next.more = r.more - n;
-    next
 }

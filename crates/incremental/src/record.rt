@@ -1,15 +1,18 @@
 // The record of a reader: all that is remembered between calls.
-ghost use Rattle.std.specs.Prelude.{◌≡◌, [], ◌≤◌, take};
+ghost use Rattle.std.specs.Prelude.{◌≡◌, [], ◌≤◌, take, length};
+ghost use Rattle.wire.specs.Errors.{code_of, input_number};
+ghost use Rattle.feeding.specs.Machine.{is_update};
 ghost use Rattle.feeding.specs.Feeding.{first};
-ghost use Rattle.incremental.specs.Record.{before_by, kind_by, held_in, map_in, fits, known_code, input_in, state_in, state_of, record_of, sixteen, numbers};
+ghost use Rattle.incremental.specs.Record.{before_by, kind_in, held_in, map_in, fits, has_room, input_in, state_in, state_of, record_of, sixteen, numbers};
 ghost use Rattle.incremental.specs.Steps.{place_in, Sane};
-ghost use Rattle.incremental.specs.Parts.{paired_as, kind_as, maps_as};
+ghost use Rattle.incremental.specs.Parts.{before_told, kind_told, paired_as, kind_as, maps_as};
 
 use wire::LIMIT;
-use wire::error::Input;
+use wire::error::{Error, Input};
 
 // Stages: between elements; the id of an 87, of an 8A, of an 8C; the maps of a row; the length in front of a field; the bytes of a field; the done
 // token was the last byte; a refusal that stands; a close that accepted.
+// Kept: (a) the record is the C interface, and any numbers are one.
 pub const BETWEEN: u32 = 0;
 
 pub const CHILD_ID: u32 = 1;
@@ -33,7 +36,7 @@ pub const CLOSED: u32 = 9;
 // The numbers of the inputs that a refusal is about, where it is not about the record: the schema file, the section.
 const SCHEMA: usize = 1;
 
-pub(crate) const SECTION: usize = 6;
+const SECTION: usize = 6;
 
 // So many bytes of a piece, or of the maps of a row, are kept at most.
 pub const KEPT: usize = 16;
@@ -41,10 +44,8 @@ pub const KEPT: usize = 16;
 // The most columns of a schema.
 const COLUMNS: usize = 64;
 
-// The greatest number of a refusal.
-const MOST_CODE: u32 = 20;
-
 // What is remembered. Any numbers are a record; those that no call makes are refused.
+// Kept: (a) the record is the C interface: a kind, a pair and an input are numbers in it, and arrays have their lengths beside them.
 #[repr(C)]
 #[derive(Clone, Copy)]
 pub struct Reader {
@@ -62,6 +63,104 @@ pub struct Reader {
     pub mapped: usize,
     pub held: [u8; 16],
     pub map: [u8; 16],
+}
+
+// Row data in progress, of a 07, or of an 87 or an 8A with this id.
+#[derive(Clone, Copy)]
+pub enum RowKind {
+    Parent,
+    Child(usize),
+    Change(usize),
+}
+
+impl RowKind {
+    // Whether they are update data.
+    pub(crate) fn is_update(self) -> bool
+        ensures { result ≡ is_update (kind_told self) }
+    {
+        matches!(self, RowKind::Change(_))
+    }
+}
+
+impl Reader {
+    // What row data are in progress.
+    pub(crate) fn row_kind(&self) -> RowKind
+        ensures { kind_told result ≡ kind_in self.now }
+    {
+        match self.kind {
+            3 => RowKind::Change(self.id),
+            2 => RowKind::Child(self.id),
+            _ => RowKind::Parent,
+        }
+    }
+
+    // A record that says what row data are in progress.
+    pub(crate) fn of_kind(self, kind: RowKind) -> Reader
+        ensures { result ≡ kind_as self (kind_told kind) }
+    {
+        match kind {
+            RowKind::Parent => Reader {
+                kind: 1,
+                id: 0,
+                ..self
+            },
+            RowKind::Child(id) => Reader {
+                kind: 2,
+                id,
+                ..self
+            },
+            RowKind::Change(id) => Reader {
+                kind: 3,
+                id,
+                ..self
+            },
+        }
+    }
+
+    // The id of an 87 element that stands directly before, if one does.
+    pub(crate) fn before(&self) -> Option<usize>
+        ensures { before_told result ≡ before_by self.now.paired self.now.id }
+    {
+        if self.paired == 0 {
+            None
+        } else {
+            Some(self.id)
+        }
+    }
+
+    // A record that says what stands before the next element.
+    pub(crate) fn behind(self, before: Option<usize>) -> Reader
+        ensures { result ≡ paired_as self (before_told before) }
+    {
+        match before {
+            None => Reader {
+                paired: 0,
+                id: 0,
+                ..self
+            },
+            Some(id) => Reader {
+                paired: 1,
+                id,
+                ..self
+            },
+        }
+    }
+
+    // The bytes of a piece so far.
+    pub(crate) fn piece(&self) -> &[u8]
+        requires { self.now.filled ≤ 16 }
+        ensures { (result.now ≡ held_in self.now) × (length result.now ≡ self.now.filled) }
+    {
+        &self.held[..self.filled]
+    }
+
+    // The maps of the row data in progress.
+    pub(crate) fn maps(&self) -> &[u8]
+        requires { self.now.mapped ≤ 16 }
+        ensures { result.now ≡ map_in self.now }
+    {
+        &self.map[..self.mapped]
+    }
 }
 
 // A record of zeros but for its stage, rows and place.
@@ -87,189 +186,114 @@ pub(crate) fn plain(stage: u32, rows: usize, at: usize) -> Reader
 }
 
 // The record of a refusal.
-pub(crate) fn refusal(code: u32, offset: usize, input: usize) -> Reader
-    ensures { result ≡ numbers 8 code 0 0 0 0 offset 0 0 input [] [] }
+pub(crate) fn refusal(e: Error) -> Reader
+    ensures { result ≡ numbers 8 (code_of e.kind) 0 0 0 0 e.offset 0 0 (input_number e.input) [] [] }
 {
-    let mut reader = plain(REFUSED, 0, offset);
-    reader.code = code;
-    reader.input = input;
-    reader
+    Reader {
+        code: e.kind.code(),
+        input: e.input.number() as usize,
+        ..plain(REFUSED, 0, e.offset)
+    }
 }
 
 // The first record.
+#[tactic(auto, unfolding(crate::specs::Record::record_of))]
 pub fn first_reader() -> Reader
     ensures { result ≡ record_of first }
 {
     plain(BETWEEN, 0, 0)
 }
 
-// Whether a record of a state is one that calls come to.
-pub(crate) fn is_fit(r: Reader) -> bool
-    ensures { result ≡ fits r }
+// Whether the record of a piece has room for the bytes that it lacks.
+fn has_room(r: &Reader) -> bool
+    ensures { result ≡ has_room r.now }
 {
-    if r.at < r.rows {
-        return false;
-    }
-    if LIMIT < r.at {
-        return false;
-    }
-    if KEPT < r.mapped {
-        return false;
-    }
-    if COLUMNS < r.column {
-        return false;
-    }
-    if r.stage < CHILD_ID {
-        return true;
-    }
-    if PREFIX < r.stage {
-        return true;
-    }
-    if r.at < 1 {
-        return false;
-    }
-    if COLUMNS <= r.column {
-        return false;
-    }
-    if KEPT <= r.filled {
-        return false;
-    }
-    r.more < KEPT - r.filled
+    1 <= r.at && r.column < COLUMNS && r.filled < KEPT && r.more < KEPT - r.filled
 }
 
-// Whether a refusal has this number.
-pub(crate) fn is_code(code: u32) -> bool
-    ensures { result ≡ known_code code }
+// Whether a record of a state is one that calls come to.
+#[tactic(auto, unfolding(crate::specs::Record::fits))]
+pub(crate) fn is_fit(r: &Reader) -> bool
+    ensures { result ≡ fits r.now }
 {
-    if code < 1 {
-        return false;
-    }
-    code <= MOST_CODE
+    r.rows <= r.at
+        && r.at <= LIMIT
+        && r.mapped <= KEPT
+        && r.column <= COLUMNS
+        && (r.stage < CHILD_ID || PREFIX < r.stage || has_room(r))
 }
 
 // The input that a number of a record names.
 pub(crate) fn input_in(number: usize) -> Input
     ensures { result ≡ input_in number }
 {
-    if number == SCHEMA {
-        return Input::Schema;
+    match number {
+        SCHEMA => Input::Schema,
+        SECTION => Input::Section,
+        _ => Input::Reader,
     }
-    if number == SECTION {
-        return Input::Section;
-    }
-    Input::Reader
 }
 
 // The first `n` of sixteen bytes, and zeros.
+#[tactic(auto, using(crate::proofs::RecordLaws::cleared_told))]
 fn cleared(bytes: [u8; 16], n: usize) -> [u8; 16]
     requires { n ≤ 16 }
     ensures { result ≡ sixteen (take n bytes) }
 {
     let mut rest = bytes;
-    let mut i = n;
-    while i < KEPT {
-        rest[i] = 0;
-        i += 1;
-    }
+    rest[n..].fill(0);
     rest
 }
 
-// A record that says what stands before the next element.
-fn paired_as(r: Reader, paired: usize, id: usize) -> Reader
-    ensures { result ≡ paired_as r (before_by paired id) }
-{
-    let mut next = r;
-    if paired == 0 {
-        next.paired = 0;
-        next.id = 0;
-        return next;
-    }
-    next.paired = 1;
-    next.id = id;
-    next
-}
-
-// A record that says what row data are in progress.
-fn kind_as(r: Reader, kind: usize, id: usize) -> Reader
-    ensures { result ≡ kind_as r (kind_by kind id) }
-{
-    let mut next = r;
-    if kind == 3 {
-        next.kind = 3;
-        next.id = id;
-        return next;
-    }
-    if kind == 2 {
-        next.kind = 2;
-        next.id = id;
-        return next;
-    }
-    next.kind = 1;
-    next.id = 0;
-    next
-}
-
 // A record with the maps of another, and the column that it has come to.
-fn maps_as(r: Reader, other: Reader) -> Reader
-    requires { other.mapped ≤ 16 }
-    ensures { result ≡ maps_as r (map_in other) other.column }
+fn with_maps(r: Reader, other: &Reader) -> Reader
+    requires { other.now.mapped ≤ 16 }
+    ensures { result ≡ maps_as r (map_in other.now) other.now.column }
 {
-    let mut next = r;
-    next.column = other.column;
-    next.mapped = other.mapped;
-    let bytes = other.map;
-    let map = cleared(bytes, other.mapped);
-    next.map = map;
-    next
+    Reader {
+        column: other.column,
+        mapped: other.mapped,
+        map: cleared(other.map, other.mapped),
+        ..r
+    }
 }
 
 // A record of no more than the piece that is kept.
-fn piece_of(r: Reader) -> Reader
-    requires { r.filled ≤ 16 }
-    ensures { result ≡ numbers r.stage 0 0 0 0 r.rows r.at r.more 0 0 (held_in r) [] }
+fn piece_of(r: &Reader) -> Reader
+    requires { r.now.filled ≤ 16 }
+    ensures { result ≡ numbers r.now.stage 0 0 0 0 r.now.rows r.now.at r.now.more 0 0 (held_in r.now) [] }
 {
-    let mut next = plain(r.stage, r.rows, r.at);
-    next.more = r.more;
-    next.filled = r.filled;
-    let bytes = r.held;
-    let held = cleared(bytes, r.filled);
-    next.held = held;
-    next
+    Reader {
+        more: r.more,
+        filled: r.filled,
+        held: cleared(r.held, r.filled),
+        ..plain(r.stage, r.rows, r.at)
+    }
 }
 
 // A record of no more than how many bytes of a field are left.
-fn body_of(r: Reader) -> Reader
-    ensures { result ≡ numbers 6 0 0 0 0 r.rows r.at r.more 0 0 [] [] }
+fn body_of(r: &Reader) -> Reader
+    ensures { result ≡ numbers 6 0 0 0 0 r.now.rows r.now.at r.now.more 0 0 [] [] }
 {
-    let mut next = plain(BODY, r.rows, r.at);
-    next.more = r.more;
-    next
+    Reader {
+        more: r.more,
+        ..plain(BODY, r.rows, r.at)
+    }
 }
 
 // The record of the same state with zeros in all that it does not need.
-pub(crate) fn tidy(r: Reader) -> Reader
-    requires { Sane r (place_in r) }
-    ensures { result ≡ state_of (state_in r) }
+#[tactic(auto, using(crate::proofs::RecordLaws::tidy_between, crate::proofs::RecordLaws::tidy_finished, crate::proofs::RecordLaws::tidy_body, crate::proofs::RecordLaws::tidy_child, crate::proofs::RecordLaws::tidy_paired, crate::proofs::RecordLaws::tidy_maps, crate::proofs::RecordLaws::tidy_prefix))]
+pub(crate) fn tidy(r: &Reader) -> Reader
+    requires { Sane r.now (place_in r.now) }
+    ensures { result ≡ state_of (state_in r.now) }
 {
-    if r.stage == BETWEEN {
-        return paired_as(plain(BETWEEN, r.rows, r.at), r.paired, r.id);
+    match r.stage {
+        BETWEEN => plain(BETWEEN, r.rows, r.at).behind(r.before()),
+        CHILD_ID => piece_of(r),
+        CHANGE_ID | DELETE_ID => piece_of(r).behind(r.before()),
+        MAPS => piece_of(r).of_kind(r.row_kind()),
+        PREFIX => with_maps(piece_of(r).of_kind(r.row_kind()), r),
+        BODY => with_maps(body_of(r).of_kind(r.row_kind()), r),
+        _ => plain(FINISHED, r.rows, r.at),
     }
-    if r.stage == FINISHED {
-        return plain(FINISHED, r.rows, r.at);
-    }
-    if r.stage == BODY {
-        return maps_as(kind_as(body_of(r), r.kind, r.id), r);
-    }
-    let piece = piece_of(r);
-    if r.stage == CHILD_ID {
-        return piece;
-    }
-    if r.stage < MAPS {
-        return paired_as(piece, r.paired, r.id);
-    }
-    let row = kind_as(piece, r.kind, r.id);
-    if r.stage == MAPS {
-        return row;
-    }
-    maps_as(row, r)
 }

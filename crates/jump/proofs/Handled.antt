@@ -6,7 +6,6 @@ use native.Mathlib.Omega.{arith}
 use lib.ListN.{length}
 use lib.Dec.{leb}
 use borrow.Author.Tests.{lt-ltb, leb-true}
-use Rattle.wire.specs.declared.error.Input.{Input}
 use Rattle.wire.specs.declared.error.Input.TheVariants as input
 use Rattle.wire.specs.Read.{Bytes, Read, ok, bad, ◌>>=◌, check, about, sized_by, sized, whole, limit}
 use Rattle.wire.proofs.Laws.{sized_over, sized_within}
@@ -23,14 +22,9 @@ module _ (p : Plan) (row : Bytes) where
   unfolding opened_row about
   opened_large h = simp (sized_over row h)
 
-  module _ (l : length row ≤ limit) where
-    pub opened_closed : {e o : ℕ} {i : Input} → planned_open p row ≡ bad e o i → opened_row p row ≡ bad e o input.Row
-    unfolding opened_row about
-    opened_closed g = simp (sized_within row l, g)
-
-    pub opened_well : (s : ℕ) → planned_open p row ≡ ok s → opened_row p row ≡ ok s
-    unfolding opened_row about
-    opened_well s g = simp (sized_within row l, g)
+  pub opened_open : length row ≤ limit → opened_row p row ≡ about input.Row (planned_open p row)
+  unfolding opened_row about
+  opened_open l = simp (sized_within row l)
 
   -- The start of a row that opens is the size of the plan's map, in the row and within the limit; so no such row has the start of one
   -- that is refused.

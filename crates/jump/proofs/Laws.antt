@@ -1,7 +1,10 @@
 -- The ways of a look-up through a plan, for the functions' proofs.
 -- Assumes nothing.
+use Rattle.std.specs.Prelude.{Result, Ok, Err, IsErrAnd}
+use Rattle.std.proofs.lemmas.Result.{err_from_is_err_and}
+use Rattle.wire.specs.declared.error.Error.{Error}
 use Prim.Native.Nat.{ℕ, zero, suc, ◌+◌, ◌*◌, ◌-◌, ◌/◌, ◌≤◌, ◌<◌}
-use mathlib.Core.List.{List, ◌∷◌, map}
+use mathlib.Core.List.{map}
 use mathlib.Core.Bool.{Bool, true, false, not}
 use mathlib.Core.Path.{◌≡◌, refl, sym, ap, ◌∙◌}
 use native.Mathlib.Omega.{arith}
@@ -29,9 +32,8 @@ use Rattle.plan.specs.declared.plan.Plan.{Plan}
 use Rattle.plan.specs.Packed.{before_in}
 use Rattle.plan.specs.Plans.{planned_word, planned_column, planned_first}
 use Rattle.jump.specs.declared.look.Way.{Way}
-use Rattle.jump.specs.declared.look.Way.TheVariants as way
 use Rattle.jump.specs.Jumps.{tabled, starts_before, stops_gone, by_bit, unset_from, unset}
-use Rattle.jump.specs.Lent.{Near, Behind, BitsOf, over}
+use Rattle.jump.specs.Lent.{Near, BitsOf, over}
 
 -- The first bits of a row as a number.
 
@@ -121,49 +123,15 @@ module _
       rw (error_told, z, span_long t row at v, q, v) refl
 
 -- a bound may be greater
-pub near_more : (r : Way) (m n prefixes : ℕ) → m ≤ n → Near m prefixes r → Near n prefixes r
-near_more (way.At base length count) m n prefixes h (a, b) = (omega arith, b)
-near_more (way.Refused e) m n prefixes h a = tt
+pub near_more : (r : Result Way Error) (m n prefixes : ℕ) → m ≤ n → Near m prefixes r → Near n prefixes r
+near_more (Ok w) m n prefixes h (a, b) = (omega arith, b)
+near_more (Err e) m n prefixes h a = tt
 
 -- a size, or nothing
 pub times_one : (w o : ℕ) → o ≤ 1 → w * o ≤ w
 times_one w zero h = omega arith
 times_one w (suc zero) h = omega arith
 times_one w (suc (suc o)) h = absurd (omega arith)
-
--- The way over a list of stops, from its number j on.
-
-module _ (row : Bytes) (n : ℕ) (f : ℕ → Stop) (j : ℕ) (w : Place) where
-  abbrev left : List Stop
-  left = map by_bit (tabled f (n - j) j)
-
-  pub leaps_end : n ≤ j → leaps (bit_set row) row left w ≡ ok w
-  unfolding tabled leaps
-  leaps_end h = let z : n - j ≡ 0 = omega arith in rw z refl
-
-  module _ (h : j < n) where
-    one_more : left ≡ by_bit (f j) ∷ map by_bit (tabled f (n - (j + 1)) (j + 1))
-    unfolding tabled
-    one_more =
-        let z : n - j ≡ suc (n - (j + 1)) = omega arith in
-        let y : suc j ≡ j + 1 = omega arith in
-        rw (z, y) refl
-
-    pub leaps_next :
-        {v : Place} → passed (bit_set row) row (by_bit (f j)) w ≡ ok v →
-        leaps (bit_set row) row left w ≡ leaps (bit_set row) row (map by_bit (tabled f (n - (j + 1)) (j + 1))) v
-    unfolding leaps
-    leaps_next e = ap (λ (l : List Stop). leaps (bit_set row) row l w) one_more ∙ rw e refl
-
-    pub leaps_refused : {e o : ℕ} {i : Input} → passed (bit_set row) row (by_bit (f j)) w ≡ bad e o i → leaps (bit_set row) row left w ≡ bad e o i
-    unfolding leaps
-    leaps_refused e = ap (λ (l : List Stop). leaps (bit_set row) row l w) one_more ∙ rw e refl
-
--- All of them.
-pub leaps_all :
-    (row : Bytes) (n : ℕ) (f : ℕ → Stop) (w : Place) →
-    leaps (bit_set row) row (map by_bit (tabled f n 0)) w ≡ leaps (bit_set row) row (map by_bit (tabled f (n - 0) 0)) w
-leaps_all row n f w = let z : n ≡ n - 0 = omega arith in ap (λ (m : ℕ). leaps (bit_set row) row (map by_bit (tabled f m 0)) w) z
 
 -- Some of them, and then those behind.
 module _ (row : Bytes) (f : ℕ → Stop) where
@@ -207,15 +175,17 @@ module _ (row : Bytes) (f : ℕ → Stop) where
       go (ok v) = refl
       go (bad c o about) = refl
 
--- a step more
-pub near_behind :
-    (r : Way) (base length prefixes j : ℕ) → base + length ≤ 4295032836 * j → prefixes ≤ j → Near (base + length + 4295032836) prefixes r → Behind (j + 1) r
-near_behind (way.At b l q) base length prefixes j h i (m, n) = (omega arith, omega arith)
-near_behind (way.Refused e) base length prefixes j h i m = tt
+  -- one stop, and then those behind it
+  module _ (n : ℕ) {k : ℕ} (j : ℕ) (w : Place) (e : k ≡ 1 + n) where
+    pub stop_on : {i : ℕ} {v : Place} → i ≡ j + 1 → ok v ≡ passed (bit_set row) row (by_bit (f j)) w → over_stops k j w ≡ over_stops n i v
+    stop_on h p = leaps_on 1 n j w e h (leaps_one j w ∙ sym p)
 
-pub behind_at : (r : Way) {i j : ℕ} → i ≡ j → Behind i r → Behind j r
-behind_at (way.At b l q) e (h, i) = (omega arith, omega arith)
-behind_at (way.Refused r) e h = tt
+    pub stop_bad : {c o : ℕ} {a : Input} → bad c o a ≡ passed (bit_set row) row (by_bit (f j)) w → over_stops k j w ≡ bad c o a
+    stop_bad p = leaps_stop 1 n j {i = j + 1} w e refl (leaps_one j w ∙ sym p)
+
+-- an error that a question mark hands on
+pub handed : {T : Type 0} (r : Result T Error) {e : Error} → IsErrAnd r (λ x. x ≡ e) → r ≡ Err e
+handed r a = let (y, is, same) = err_from_is_err_and r a in is ∙ ap (λ (x : Error). Err x) same
 
 -- How many stops there are.
 

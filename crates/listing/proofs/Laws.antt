@@ -7,13 +7,13 @@ use native.Mathlib.Nat.{pow-suc}
 use native.Mathlib.Numerals.{add-one}
 use native.Mathlib.Omega.{arith}
 use lib.ListN.{length, take, drop, get_or, length-append, take-append-drop}
+use Rattle.std.proofs.lemmas.List.{get_or-take, drop-take, length-drop, length-take-le}
 use lib.Seq.{take-append_seam, get_or-drop}
 use lib.Dec.{leb}
-use borrow.Author.Tests.{le-leb, lt-leb, leb-true, eq-eqb, ne_eqb}
-use Rattle.wire.specs.declared.error.Input.{Input}
+use borrow.Author.Tests.{le-leb, lt-leb, leb-true}
 use Rattle.wire.specs.declared.error.Input.TheVariants as input
 use Rattle.wire.specs.declared.error.Error.{Error}
-use Rattle.wire.specs.Errors.{code_of, input_number}
+use Rattle.wire.specs.Errors.{code_of}
 use Rattle.wire.specs.Read.{Bytes, Read, ok, bad, check, about, refused}
 use Rattle.wire.specs.Output.{put}
 use Rattle.wire.proofs.Laws.{put_fits, put_put, length_put}
@@ -23,7 +23,7 @@ use Rattle.std.proofs.lemmas.Fmt.{decimal_by_steps, length-decimal-le}
 use Rattle.grammar.specs.Grammar.{Row, entry}
 use Rattle.section.specs.Table.{table_numbers, fitting, rows_checked, rows_listed, row_count, table_after}
 use Rattle.section.proofs.Listing.{rows_told_lem, error_told}
-use Rattle.listing.specs.Lines.{last_digits, IsDigitCount, Decimal, space, newline, rows_word, at_word, CountLine, count_line, RowLine, row_line, RowLines, no_lines, one_more, sheet_refused, rows_refused, refusal_words, RefusalLine, refusal_line, Text, rows_text, refusal_text, rows_of, Adds, AddsNumber, AddsThe}
+use Rattle.listing.specs.Lines.{last_digits, IsDigitCount, Decimal, space, newline, rows_word, at_word, CountLine, count_line, RowLine, row_line, RowLines, no_lines, one_more, refusal_words, RefusalLine, refusal_line, Text, rows_text, refusal_text, rows_of, Adds, AddsNumber, AddsThe}
 use Rattle.listing.specs.Listing.{file_limit, listing}
 
 -- the text of a number of 64 bits is that number in decimal
@@ -199,13 +199,24 @@ lines_end {text} {exit} {at} {end} table i n h k a =
     let z : i ≡ n = omega arith in
     subst (λ (m : ℕ). AddsThe (RowLines (rows_of m table)) (84 * m) text exit at end) z a
 
--- the words of a refusal, by what it is about
-module _ (name : Input) {a b : ℕ} (p : a ≡ input_number name) (q : b ≡ input_number input.Schema) where
-  pub of_sheet : a ≡ b → sheet_refused ≡ refusal_words name
-  of_sheet e = rw (eq-eqb (input_number name) (input_number input.Schema) (sym p ∙ e ∙ q)) refl
+-- the rows of the front of a table
+pub rows_front : (n : ℕ) (table : List ℕ) → 4 * n ≤ length table → rows_of n (take (4 * n) table) ≡ rows_of n table
+unfolding rows_of
+rows_front zero table h = refl
+rows_front (suc n) table h =
+    let e : 4 * suc n ≡ 4 + 4 * n = omega arith in
+    let f : (i : ℕ) → i < 4 → get_or (take (4 * suc n) table) i 0 ≡ get_or table i 0 = λ i k. get_or-take (4 * suc n) table i 0 (omega arith) in
+    let g : drop 4 (take (4 * suc n) table) ≡ take (4 * n) (drop 4 table) = rw e (drop-take 4 (4 * n) table) in
+    rw (f 0 (omega arith), f 1 (omega arith), f 2 (omega arith), f 3 (omega arith), g, rows_front n (drop 4 table) (rw length-drop (omega arith))) refl
 
-  pub of_rows : (a ≡ b → ⊥) → rows_refused ≡ refusal_words name
-  of_rows e = rw (ne_eqb (input_number name) (input_number input.Schema) (λ h. e (p ∙ h ∙ sym q))) refl
+-- the lines of that front
+pub front_lines :
+    {text exit : Bytes} {at end : ℕ} (n : ℕ) (table : List ℕ) → 4 * n ≤ length table →
+    AddsThe (RowLines (rows_of (length (take (4 * n) table) / 4) (take (4 * n) table))) (84 * (length (take (4 * n) table) / 4)) text exit at end →
+    AddsThe (RowLines (rows_of n table)) (84 * n) text exit at end
+front_lines n table h a =
+    let z : length (take (4 * n) table) / 4 ≡ n = omega (arith, length-take-le (4 * n) table h) in
+    rw (z, rows_front n table h) at a
 
 -- rows that are listed have room in the table
 fitting_room : (numbers : ℕ) (qs rs : List Row) → fitting numbers qs ≡ ok rs → length rs ≤ numbers / 4

@@ -1,6 +1,6 @@
 // The lines of a listing, made one behind the other in an array of the caller's. None has more than 84 bytes: four numbers of 20 digits
 // with a byte behind each.
-ghost use Rattle.std.specs.Prelude.{◌+◌, ◌*◌, ◌≤◌, length};
+ghost use Rattle.std.specs.Prelude.{◌+◌, ◌*◌, ◌/◌, ◌≤◌, length};
 ghost use Rattle.wire.specs.Errors.{code_of};
 ghost use Rattle.listing.specs.Lines.{Adds, AddsNumber, AddsThe, CountLine, RowLine, RowLines, RefusalLine, refusal_words, rows_of};
 
@@ -13,6 +13,7 @@ const SPACE: u8 = b' ';
 const NEWLINE: u8 = b'\n';
 
 // Adds words to a text that has `at` bytes. How many it then has.
+// Kept: a text and its length, here and below, since memory is fixed: the text grows in an array of the caller's.
 fn add_words(text: &mut [u8], at: usize, words: &[u8]) -> usize
     requires { at + length words.now ≤ length text.old }
     ensures { Adds text.old text.new at words.now result }
@@ -22,6 +23,7 @@ fn add_words(text: &mut [u8], at: usize, words: &[u8]) -> usize
 }
 
 // Adds a number in decimal, and a byte behind it.
+#[tactic(auto, using(crate::proofs::Laws::number_added))]
 fn add_number(text: &mut [u8], at: usize, n: usize, byte: u8) -> usize
     requires { at + 21 ≤ length text.old }
     ensures { AddsNumber text.old text.new at n byte result × (result ≤ at + 21) }
@@ -54,24 +56,15 @@ fn add_row(text: &mut [u8], at: usize, kind: u32, id: u32, original: u32, update
     add_number(text, fourth, update as usize, NEWLINE)
 }
 
-// Adds the lines of the first `n` rows of a table.
-pub(crate) fn add_rows(text: &mut [u8], at: usize, table: &[u32], n: usize) -> usize
-    requires { (at + 84 * n ≤ length text.old) × (4 * n ≤ length table.now) }
-    ensures { AddsThe (RowLines (rows_of n table.now)) (84 * n) text.old text.new at result }
+// Adds the lines of rows, each four numbers.
+pub(crate) fn add_rows(text: &mut [u8], at: usize, rows: &[u32]) -> usize
+    requires { at + 84 * (length rows.now / 4) ≤ length text.old }
+    ensures { AddsThe (RowLines (rows_of (length rows.now / 4) rows.now)) (84 * (length rows.now / 4)) text.old text.new at result }
 {
     let mut end = at;
-    let mut i = 0;
-    while i < n {
+    for i in 0..rows.len() / 4 {
         let k = 4 * i;
-        end = add_row(
-            text,
-            end,
-            table[k],
-            table[k + 1],
-            table[k + 2],
-            table[k + 3],
-        );
-        i += 1;
+        end = add_row(text, end, rows[k], rows[k + 1], rows[k + 2], rows[k + 3]);
     }
     end
 }
@@ -92,10 +85,8 @@ pub(crate) fn add_error(text: &mut [u8], e: Error) -> usize
     requires { 84 ≤ length text.old }
     ensures { AddsThe (RefusalLine (refusal_words e.input) (code_of e.kind) e.offset) 84 text.old text.new 0 result }
 {
-    let kind = e.kind;
-    let code = kind.code() as usize;
-    let input = e.input;
-    if input.number() == Input::Schema.number() {
+    let code = e.kind.code() as usize;
+    if e.input == Input::Schema {
         return add_refusal(text, b"sheet refused ", code, e.offset);
     }
     add_refusal(text, b"rows refused ", code, e.offset)

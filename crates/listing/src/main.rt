@@ -20,14 +20,12 @@ const TEXT: usize = 86_100;
 
 fn main(rt: HostRuntime) -> io::Result<()> {
     let mut sheet = [0u8; BUFFER];
-    let sheet_size = read_file(&rt, "sheet.bin", &mut sheet);
     let mut rows = [0u8; BUFFER];
-    let rows_size = read_file(&rt, "rows.bin", &mut rows);
     let mut table = [0u32; TABLE];
     let mut text = [0u8; TEXT];
     let size = list_text(
-        &sheet[..sheet_size],
-        &rows[..rows_size],
+        read_file(&rt, "sheet.bin", &mut sheet),
+        read_file(&rt, "rows.bin", &mut rows),
         &mut table,
         &mut text,
     );

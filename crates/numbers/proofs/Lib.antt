@@ -4,3 +4,4 @@ pub mod Listed
 pub mod Trips
 pub mod Forms
 pub mod WriterExamples
+pub mod Walking

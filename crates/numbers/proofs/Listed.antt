@@ -1,13 +1,14 @@
 -- Laws of the numbers of a file, listed one after the other.
 -- Assumes nothing.
+use Rattle.std.specs.Prelude.{Ok, Err}
 use Prim.Native.Nat.{ℕ, ◌+◌, ◌≤◌, ◌<◌}
 use mathlib.Core.Path.{◌≡◌, refl, sym, ap, ◌∙◌}
 use mathlib.Core.List.{List, [], ◌++◌}
 use mathlib.Core.Bool.{Bool, true, false}
 use native.Mathlib.Numerals.{add-one}
 use native.Mathlib.Omega.{arith}
-use lib.ListN.{length, get_or, set, drop, length-drop, drop_of_length-le}
-use lib.Seq.{drop-cons, paste, paste-zero, paste-suc}
+use lib.ListN.{length, get_or, drop, length-drop, drop_of_length-le}
+use lib.Seq.{drop-cons}
 use lib.Dec.{ltb}
 use borrow.Author.Tests.{ltb-true, ltb-false, le-leb, lt-leb}
 use Rattle.wire.specs.declared.error.Error.{Error}
@@ -16,9 +17,7 @@ use Rattle.wire.specs.declared.error.Input.TheVariants as input
 use Rattle.wire.specs.Errors.{code_of}
 use Rattle.wire.specs.Read.{Bytes, AreBytes, Read, ok, bad, check, about, refused}
 use Rattle.wire.specs.Output.{put, size_of, output_after}
-use Rattle.wire.proofs.Laws.{put_paste}
 use Rattle.wire.proofs.Pieces.{bad_ok, ok_ok}
-use Rattle.numbers.specs.declared.listing.Listed.TheVariants as listed
 use Rattle.tree.specs.Numbers.{groups, all_groups, Number, number, number_in, found, number_at}
 use Rattle.tree.specs.Tree.{Tree, numbers, encode}
 use Rattle.tree.specs.Reader.{file_of}
@@ -54,7 +53,7 @@ module _ (b : Bytes) (ns : List ℕ) (small : AllSmall ns) (at n : ℕ) (k : Beh
       (p, ap (λ (x : Bytes). number_in x at) z ∙ f)
 
   -- a number stands there exactly if bytes do
-  behind_end : length b ≤ at → n ≡ length ns
+  pub behind_end : length b ≤ at → n ≡ length ns
   behind_end h = by (ltb n (length ns)) refl
     where
       by : (t : Bool) → ltb n (length ns) ≡ t → n ≡ length ns
@@ -65,7 +64,7 @@ module _ (b : Bytes) (ns : List ℕ) (small : AllSmall ns) (at n : ℕ) (k : Beh
           let l : length ns ≤ n = ltb-false _ _ e in
           omega (arith, k.few)
 
-  behind_more : at < length b → n < length ns
+  pub behind_more : at < length b → n < length ns
   unfolding all_groups
   behind_more h = by (ltb n (length ns)) refl
     where
@@ -75,7 +74,7 @@ module _ (b : Bytes) (ns : List ℕ) (small : AllSmall ns) (at n : ℕ) (k : Beh
           let z : drop at b ≡ [] = k.rest ∙ ap all_groups (drop_of_length-le ns (ltb-false _ _ e)) in
           absurd (omega (arith, ap length z, length-drop at b))
 
-  behind_never : (c p : ℕ) (i : Input) → at < length b → number_at b at ≡ bad c p i → ⊥
+  pub behind_never : (c p : ℕ) (i : Input) → at < length b → number_at b at ≡ bad c p i → ⊥
   behind_never c p i h e =
       let (q, f) = behind_read (behind_more h) in
       let z : bad c p i ≡ number_in (drop at b) at = rw e at (number_at_lem b at k.inside) in
@@ -88,78 +87,31 @@ module _ (b : Bytes) (ns : List ℕ) (small : AllSmall ns) (at n : ℕ) (k : Beh
         let z : ok (number v (drop p b) p) ≡ number_in (drop at b) at = rw e at (number_at_lem b at k.inside) in
         (q, ok_ok (z ∙ f))
 
-    behind_value : v ≡ get_or ns n 0
+    pub behind_value : v ≡ get_or ns n 0
     behind_value = ap (λ (x : Number). x.value) behind_same.1
 
-    behind_next : Behind b ns p (n + 1)
+    pub behind_next : Behind b ns p (n + 1)
     behind_next =
         record { few = omega (arith, behind_more h); inside = (number_inside b at v p e).1; rest = ap (λ (x : Number). x.left) behind_same.1 }
 
--- Of a file: the loop that counts its numbers.
-
-abbrev pub Counted : Bytes → (at n : ℕ) → Type 0
-Counted b at n = (t : Tree) → file_of b ≡ ok t → Behind b (numbers t) at n
+-- Of a file: its numbers are small, and all of them stand behind its start.
 
 module _ (b : Bytes) (o : AreBytes b) where
   pub file_small : (t : Tree) → file_of b ≡ ok t → AllSmall (numbers t)
   file_small t e = numbers_small ((file_of_iff b t o).0 e).1
 
-  pub counted_start : Counted b 0 0
+  pub file_start : (t : Tree) → file_of b ≡ ok t → Behind b (numbers t) 0 0
   unfolding encode
-  counted_start t e = behind_start b (numbers t) ((file_of_iff b t o).0 e).0
-
-  module _ (at n : ℕ) (k : Counted b at n) where
-    pub counted_end : length b ≤ at → CountIs b n
-    counted_end h t e = behind_end b (numbers t) (file_small t e) at n (k t e) h
-
-    pub counted_never : (x : Error) → at < length b → number_at b at ≡ refused x → CountIs b n
-    counted_never x h q t e = absurd (behind_never b (numbers t) (file_small t e) at n (k t e) _ _ _ h q)
-
-    pub counted_next : (v p : ℕ) → at < length b → number_at b at ≡ ok (found v p) → Counted b p (n + 1)
-    counted_next v p h q t e = behind_next b (numbers t) (file_small t e) at n (k t e) v p h q
-
--- The loop that lists them: the table has the first n of them, where there is room for all.
-
-abbrev pub Filling : Bytes → (entry table : List ℕ) → (at n : ℕ) → Type 0
-Filling b entry table at n =
-    (t : Tree) → file_of b ≡ ok t → length (numbers t) ≤ length entry → Behind b (numbers t) at n × (table ≡ paste entry 0 (numbers t) n)
-
-module _ (b : Bytes) (o : AreBytes b) (entry : List ℕ) where
-  pub filling_start : Filling b entry entry 0 0
-  filling_start t e l = (counted_start b o t e, paste-zero entry 0 (numbers t))
-
-  module _ (table : List ℕ) (at n : ℕ) (k : Filling b entry table at n) where
-    -- all are listed
-    filling_all : (t : Tree) → file_of b ≡ ok t → length (numbers t) ≤ length entry → n ≡ length (numbers t) → table ≡ put entry 0 (numbers t)
-    filling_all t e l z = (k t e l).1 ∙ ap (paste entry 0 (numbers t)) z ∙ sym (put_paste entry 0 (numbers t) (omega arith))
-
-    pub filling_end : length b ≤ at → ListIs b entry table
-    filling_end h t e l = filling_all t e l (behind_end b (numbers t) (file_small b o t e) at n (k t e l).0 h)
-
-    pub filling_full : length entry ≤ n → ListIs b entry table
-    filling_full h t e l = filling_all t e l (omega (arith, (k t e l).0.few))
-
-    pub filling_never : (x : Error) → at < length b → number_at b at ≡ refused x → ListIs b entry table
-    filling_never x h q t e l = absurd (behind_never b (numbers t) (file_small b o t e) at n (k t e l).0 _ _ _ h q)
-
-    pub filling_next : (v p : ℕ) → at < length b → n < length entry → number_at b at ≡ ok (found v p) → Filling b entry (set table n v) p (n + 1)
-    filling_next v p h m q t e l =
-        let s = file_small b o t e in
-        let z : v ≡ get_or (numbers t) n 0 = behind_value b (numbers t) s at n (k t e l).0 v p h q in
-        let y : n ≡ 0 + n = omega arith in (
-          behind_next b (numbers t) s at n (k t e l).0 v p h q,
-          rw ((k t e l).1, z) (ap (λ (j : ℕ). set (paste entry 0 (numbers t) n) j (get_or (numbers t) n 0)) y ∙ paste-suc entry 0 (numbers t) n 0 (omega arith) (behind_more b (numbers t) s at n (k t e l).0 h)
-              ∙ ap (paste entry 0 (numbers t)) (sym (add-one n))),
-        )
+  file_start t e = behind_start b (numbers t) ((file_of_iff b t o).0 e).0
 
 -- The ways out of the listing.
 
-pub lists_error : (ns : Read (List ℕ)) (entry : List ℕ) (e : Error) → ns ≡ refused e → Lists ns entry entry (listed.Refused e)
+pub lists_error : (ns : Read (List ℕ)) (entry : List ℕ) (e : Error) → ns ≡ refused e → Lists ns entry entry (Err e)
 unfolding size_of output_after
 lists_error ns entry e h = record { answers = ap size_of (sym h); leaves = ap (λ (q : Read (List ℕ)). output_after q entry) (sym h) }
 
 lists_numbers :
-    (r : Read (List ℕ)) (ns entry exit : List ℕ) (n : ℕ) → r ≡ ok ns → n ≡ length ns → exit ≡ put entry 0 ns → Lists r entry exit (listed.Numbers n)
+    (r : Read (List ℕ)) (ns entry exit : List ℕ) (n : ℕ) → r ≡ ok ns → n ≡ length ns → exit ≡ put entry 0 ns → Lists r entry exit (Ok n)
 unfolding size_of output_after
 lists_numbers r ns entry exit n h l e =
     record {
@@ -182,7 +134,7 @@ module _ (b : Bytes) (o : AreBytes b) (slots : List ℕ) (l : length slots ≡ t
         rw (e, ← z, lt-leb n capacity m) refl
 
     pub lists_all :
-        (entry exit : List ℕ) → n ≤ length entry → ListIs b entry exit → Lists (numbers_listed b (length entry)) entry exit (listed.Numbers n)
+        (entry exit : List ℕ) → n ≤ length entry → ListIs b entry exit → Lists (numbers_listed b (length entry)) entry exit (Ok n)
     unfolding numbers_listed about check
     lists_all entry exit m q =
         let (t, e) = fill_ok b slots o l f h in

@@ -1,1 +1,3 @@
 pub mod Writer
+-- Inner.
+pub mod Listing

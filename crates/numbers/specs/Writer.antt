@@ -1,11 +1,10 @@
 -- Promise: the writer of a schema file from its numbers, and the numbers of a file (document 01, "Column sheet" and the writers).
 -- Assumes nothing.
-use Rattle.std.specs.Prelude.{ℕ, ◌+◌, ◌*◌, ◌≤◌, ◌≡◌, List, [], ◌∷◌, ◌++◌, length, take, leb, ltb, eqb}
+use Rattle.std.specs.Prelude.{ℕ, ◌+◌, ◌*◌, ◌≤◌, ◌≡◌, List, [], ◌∷◌, ◌++◌, length, take, leb, ltb, eqb, Result}
+use Rattle.wire.specs.declared.error.Error.{Error}
 use Rattle.wire.specs.declared.error.Input.TheVariants as input
-use Rattle.wire.specs.Read.{Bytes, Read, ok, bad, ◌>>=◌, pick, check, about, refused, sized_by}
+use Rattle.wire.specs.Read.{Bytes, Read, ok, bad, ◌>>=◌, pick, check, about, sized_by, told}
 use Rattle.wire.specs.Output.{put, fitting, size_of, output_after}
-use Rattle.numbers.specs.declared.listing.Listed.{Listed}
-use Rattle.numbers.specs.declared.listing.Listed.TheVariants as listed
 use Rattle.tree.specs.Numbers.{number_limit, groups}
 use Rattle.tree.specs.Tree.{Tree, numbers}
 use Rattle.tree.specs.Reader.{read_file, file_of}
@@ -48,14 +47,9 @@ numbers_listed b capacity = do
   _ ← about input.Table (check (leb (length (numbers t)) capacity) 16 (length (numbers t)))
   ok (numbers t)
 
--- what a `Listed` says
-abbrev pub told_listed : Listed → Read ℕ
-told_listed (listed.Numbers n) = ok n
-told_listed (listed.Refused e) = refused e
-
 -- What a list of numbers in a caller's table promises: how many there are or the error, and what the table then holds.
-pub record Lists (ns : Read (List ℕ)) (entry exit : List ℕ) (answer : Listed) : Type 0 where
-  pub answers : told_listed answer ≡ size_of ns
+pub record Lists (ns : Read (List ℕ)) (entry exit : List ℕ) (answer : Result ℕ Error) : Type 0 where
+  pub answers : told answer ≡ size_of ns
   pub leaves : exit ≡ output_after ns entry
 
 -- Inner.

@@ -1,21 +1,14 @@
 -- Promise: handler options (document 01, "Header and handler options").
 -- Assumes nothing.
 use Rattle.std.specs.Prelude.{ℕ, ◌+◌, ◌-◌, [], ◌∷◌, ◌++◌, Bool, false, length, leb, eqb}
+use Rattle.wire.specs.declared.error.Input.{Input}
 use Rattle.wire.specs.declared.error.Input.TheVariants as input
-use Rattle.wire.specs.Read.{Bytes, Read, ok, ◌>>=◌, pick, check, about, refused, sized_by, sized, cut, whole, byte_at, constants}
+use Rattle.wire.specs.Read.{Bytes, Read, ok, ◌>>=◌, pick, check, about, sized_by, sized, cut, whole, byte_at, constants}
 use Rattle.wire.specs.Integers.{read_int, int_bytes}
 use Rattle.wire.specs.Output.{fitting}
 use Rattle.options.specs.declared.options.Span.{Span}
 use Rattle.options.specs.declared.options.Spans.{Spans}
 use Rattle.options.specs.declared.options.Options.{Options}
-use Rattle.options.specs.declared.options.SpanRead.{SpanRead}
-use Rattle.options.specs.declared.options.SpanRead.TheVariants as span
-use Rattle.options.specs.declared.options.SpansRead.{SpansRead}
-use Rattle.options.specs.declared.options.SpansRead.TheVariants as spans
-use Rattle.options.specs.declared.options.OptionsRead.{OptionsRead}
-use Rattle.options.specs.declared.options.OptionsRead.TheVariants as options
-use Rattle.options.specs.declared.options.SizeCheck.{SizeCheck}
-use Rattle.options.specs.declared.options.SizeCheck.TheVariants as size
 
 abbrev pub token : Bytes
 token = 0x02 ∷ []
@@ -98,6 +91,12 @@ options_bytes first second third async =
     head_bytes (25 + length first + length second + length third)
     ++ string_bytes first ++ string_bytes second ++ string_bytes third ++ int_bytes 2 async
 
+-- The size with one string more: the size says at most 65,535 (4), and the error names the string that passes it.
+unfoldable pub size_with : ℕ → ℕ → Input → Read ℕ
+size_with size n name = do
+  _ ← about name (check (leb (size + n) 65535) 4 1)
+  ok (size + n)
+
 -- The size of three strings of these lengths: each is within the limit (19), and the size says at most 65,535 (4): the
 -- error names the string that passes it.
 unfoldable pub strings_size : ℕ → ℕ → ℕ → Read ℕ
@@ -123,26 +122,8 @@ options_written first second third async capacity = do
   _ ← options_size (length first) (length second) (length third) async
   fitting (options_bytes first second third async) capacity
 
--- what an `OptionsRead` says
-abbrev pub told_options : OptionsRead → Read Options
-told_options (options.Read x) = ok x
-told_options (options.Refused e) = refused e
-
 -- the bytes of a string that was read
 abbrev pub text_of : Bytes → Span → Bytes
 text_of s x = cut s x.start (x.end - x.start)
 
 -- Inner.
-
--- what the answers say
-abbrev pub told_span : SpanRead → Read Span
-told_span (span.Read x) = ok x
-told_span (span.Refused e) = refused e
-
-abbrev pub told_spans : SpansRead → Read Spans
-told_spans (spans.Read x) = ok x
-told_spans (spans.Refused e) = refused e
-
-abbrev pub told_size : SizeCheck → Read ℕ
-told_size (size.Size n) = ok n
-told_size (size.Refused e) = refused e

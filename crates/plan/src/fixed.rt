@@ -1,51 +1,35 @@
 // The fixed place of a column's field, which a plan names without any row.
-ghost use Rattle.std.specs.Prelude.{◌≡◌, ◌≤◌, ◌<◌};
-ghost use Rattle.plan.specs.Plans.{no_stops, fixed_place, lent};
+ghost use Rattle.std.specs.Prelude.{◌≡◌, ◌≤◌, ◌↔◌, false, length, take, IsTrue, EachIndex};
+ghost use Rattle.column.specs.Columns.{is_stop};
+ghost use Rattle.column.specs.Packed.{packed_at};
+ghost use Rattle.plan.specs.Plans.{fixed_place};
 ghost use Rattle.plan.specs.Told.{told_place};
 
 use crate::parts::{COUNTS, count_in, gap_in};
 use crate::plan::Plan;
 use column::packed::unpack;
 use wire::error::{Error, ErrorKind, Input};
-use wire::lesser;
-
-// Where a column's field starts in every row that has it, or that no place is fixed.
-#[derive(Clone, Copy)]
-pub enum PlaceRead {
-    Fixed(usize),
-    Moving,
-    Refused(Error),
-}
 
 // Whether none of the first `k` columns of a plan's numbers is a stop.
 fn no_stops(plan: &[usize; 131], k: usize) -> bool
     requires { k ≤ 64 }
-    ensures { result ≡ no_stops (lent plan.now) k }
+    ensures { (IsTrue result ↔ EachIndex (take k plan.now) (λ i. is_stop (packed_at (take k plan.now) i) ≡ false)) × (k ≤ length plan.now) }
 {
-    let mut i = k;
-    while 0 < i {
-        if unpack(plan[i - 1]).is_stop() {
-            return false;
-        }
-        i -= 1;
-    }
-    true
+    plan[..k].iter().all(|word| !unpack(*word).is_stop())
 }
 
 // The fixed place of column `k`, by a plan; none for a chapter, nor behind a stop.
-pub fn fixed_place(plan: Plan, k: usize) -> PlaceRead
+#[tactic(auto, using(crate::proofs::Named::prefix_few, crate::proofs::Named::place_missing, crate::proofs::Named::place_chapter, crate::proofs::Named::place_moving, crate::proofs::Named::place_fixed))]
+pub fn fixed_place(plan: Plan, k: usize) -> Result<Option<usize>, Error>
     ensures { told_place result ≡ fixed_place plan k }
 {
-    if lesser(count_in(plan.numbers[COUNTS]), 64) <= k {
-        return PlaceRead::Refused(Error::at_start(ErrorKind::Missing, Input::Column));
+    if count_in(plan.numbers[COUNTS]).min(64) <= k {
+        return Err(Error::at_start(ErrorKind::Missing, Input::Column));
     }
     let word = plan.numbers[k];
     let column = unpack(word);
-    if column.is_chapter() {
-        return PlaceRead::Moving;
+    if column.is_chapter() || !no_stops(&plan.numbers, k) {
+        return Ok(None);
     }
-    if no_stops(&plan.numbers, k) {
-        return PlaceRead::Fixed(gap_in(word) + column.prefix_bytes());
-    }
-    PlaceRead::Moving
+    Ok(Some(gap_in(word) + column.prefix_bytes()))
 }

@@ -1,8 +1,8 @@
 // The plan of the columns of a schema: one loop over them.
-ghost use Rattle.std.specs.Prelude.{◌≡◌, ◌-◌, ◌^◌, ◌≤◌, ◌<◌, min, eqb, replicate};
+ghost use Rattle.std.specs.Prelude.{◌≡◌, ◌-◌, ◌^◌, ◌≤◌, ◌<◌, length, min, eqb, replicate};
 ghost use Rattle.wire.specs.Read.{pick};
 ghost use Rattle.column.specs.Columns.{width, is_chapter};
-ghost use Rattle.column.specs.Packed.{packed_at, packed_from};
+ghost use Rattle.column.specs.Packed.{packed_from};
 ghost use Rattle.walk.specs.Presence.{presence_bytes};
 ghost use Rattle.plan.specs.Packed.{packed};
 ghost use Rattle.plan.specs.Plans.{plan_of, lent};
@@ -11,17 +11,8 @@ use crate::parts::{BEFORE, BIT, CHAPTERS, COUNTS, FIRST, GAP, MAP, STOPS, WIDTH}
 use crate::plan::Plan;
 use column::column::Column;
 use column::packed::{pack, unpack_slot};
-use row::rows::{one, presence_bytes};
+use row::rows::presence_bytes;
 use stops::stop::stop_sized;
-use wire::lesser;
-
-// Column `i` of a schema's slots.
-fn column_of(slots: &[u32; 64], i: usize) -> Column
-    requires { i < 64 }
-    ensures { result ≡ packed_at slots.now i }
-{
-    unpack_slot(slots[i])
-}
 
 // What a plan holds as the gap of a column: nothing for a chapter.
 fn gap_of(column: Column, gap: usize) -> usize
@@ -31,6 +22,7 @@ fn gap_of(column: Column, gap: usize) -> usize
 }
 
 // The number of a column of this width, with its gap, its bit and the stops before it.
+#[tactic(auto, unfolding(crate::specs::Packed::packed))]
 fn number_of(column: Column, size: usize, gap: usize, bit: usize, before: usize) -> usize
     requires { (size ≡ width column) × (size ≤ 16) × (gap < 4096) × (bit < 64) × (before < 64) }
     ensures { result ≡ packed column (pick (is_chapter column) 0 gap) bit before }
@@ -46,6 +38,7 @@ fn first_of(stops: usize, i: usize, first: usize) -> usize
 }
 
 // What a column that is no stop adds to the bits of nullable chapters: its bit, where it is nullable.
+#[tactic(auto, using(crate::proofs::Fill::power_down))]
 fn chapter_bit(nullable: bool, bit: usize) -> usize
     requires { bit < 64 }
     ensures { result ≡ pick nullable (2 ^ (63 - bit)) 0 }
@@ -57,19 +50,18 @@ fn chapter_bit(nullable: bool, bit: usize) -> usize
     }
 }
 
-// The numbers of the plan of the columns in the first `n` slots, whose presence map has so many bytes, into an array of zeros.
-fn fill(slots: &[u32; 64], n: usize, map: usize, numbers: &mut [usize; 131])
-    requires { (n ≤ 64) × (map ≡ presence_bytes (packed_from n 0 slots.now)) × (numbers.old ≡ replicate 131 0) }
-    ensures { lent numbers.new ≡ plan_of (packed_from n 0 slots.now) }
+// The numbers of the plan of the columns in these slots, whose presence map has so many bytes, into an array of zeros.
+fn fill(slots: &[u32], map: usize, numbers: &mut [usize; 131])
+    requires { (length slots.now ≤ 64) × (map ≡ presence_bytes (packed_from (length slots.now) 0 slots.now)) × (numbers.old ≡ replicate 131 0) }
+    ensures { lent numbers.new ≡ plan_of (packed_from (length slots.now) 0 slots.now) }
 {
     let mut gap = map;
     let mut bit = 0;
     let mut stops = 0;
     let mut first = 0;
     let mut mask = 0;
-    let mut i = 0;
-    while i < n {
-        let column = column_of(slots, i);
+    for (i, &slot) in slots.iter().enumerate() {
+        let column = unpack_slot(slot);
         let nullable = column.is_nullable();
         let size = column.width();
         numbers[i] = number_of(column, size, gap, bit, stops);
@@ -78,34 +70,31 @@ fn fill(slots: &[u32; 64], n: usize, map: usize, numbers: &mut [usize; 131])
             first = first_of(stops, i, first);
             stops += 1;
             gap = 0;
-            bit += one(nullable);
-            i += 1;
         } else {
             mask += chapter_bit(nullable, bit);
             gap += size;
-            bit += one(nullable);
-            i += 1;
         }
+        bit += usize::from(nullable);
     }
-    numbers[COUNTS] = n + FIRST * first;
+    numbers[COUNTS] = slots.len() + FIRST * first;
     numbers[MAP] = map;
     numbers[CHAPTERS] = mask;
 }
 
-// The numbers of the plan of the columns in the first `count` slots, into an array of zeros: what is lent is not copied.
-pub(crate) fn make_into(slots: &[u32; 64], count: usize, numbers: &mut [usize; 131])
+// The numbers of the plan of the columns in no more than 64 slots, into an array of zeros: what is lent is not copied.
+pub(crate) fn make_into(slots: &[u32], numbers: &mut [usize; 131])
     requires { numbers.old ≡ replicate 131 0 }
-    ensures { lent numbers.new ≡ plan_of (packed_from (min count 64) 0 slots.now) }
+    ensures { lent numbers.new ≡ plan_of (packed_from (min (length slots.now) 64) 0 slots.now) }
 {
-    let map = presence_bytes(slots, count);
-    fill(slots, lesser(count, 64), map, numbers);
+    let few = &slots[..slots.len().min(64)];
+    fill(few, presence_bytes(few), numbers);
 }
 
-// The plan of the columns in the first `count` slots.
-pub fn make(slots: &[u32; 64], count: usize) -> Plan
-    ensures { result ≡ plan_of (packed_from (min count 64) 0 slots.now) }
+// The plan of the columns in no more than 64 slots.
+pub fn make(slots: &[u32]) -> Plan
+    ensures { result ≡ plan_of (packed_from (min (length slots.now) 64) 0 slots.now) }
 {
     let mut numbers = [0usize; 131];
-    make_into(slots, count, &mut numbers);
+    make_into(slots, &mut numbers);
     Plan { numbers }
 }

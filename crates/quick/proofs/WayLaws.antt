@@ -2,7 +2,8 @@
 -- Assumes nothing.
 use Prim.Native.Nat.{ℕ, zero, suc, ◌+◌, ◌*◌, ◌-◌, ◌/◌, ◌%◌, ◌^◌, ◌<◌, ◌≤◌}
 use mathlib.Core.Path.{◌≡◌, refl, sym, ap, ◌∙◌}
-use mathlib.Core.Logic.{◌⊎◌, inl, inr}
+use Rattle.std.specs.Prelude.{Option, IfSome}
+use Rattle.std.proofs.lemmas.Option.{IfSome_then}
 use mathlib.Core.List.{List, [], ◌∷◌}
 use mathlib.Core.Bool.{Bool, true, false, not}
 use native.Mathlib.Nat.{zero-div}
@@ -28,8 +29,8 @@ use Rattle.walk.proofs.UpdateLaws.{length_numbered, number_at_lem}
 use Rattle.walk.proofs.Leap.{original_ends, update_ends}
 use Rattle.shapes.specs.Data.{data_stops, data_always}
 use Rattle.shapes.specs.Shapes.{stops_in, map_in, tail_in, always_in, Formed}
-use Rattle.shapes.specs.Masks.{Covers, is_marked}
-use Rattle.quick.specs.Quick.{Says, QuickRow, QuickUpdate, RowStep, Leading, Over, Keeps}
+use Rattle.shapes.specs.Masks.{Covers, is_marked, Shape}
+use Rattle.quick.specs.Quick.{QuickRow, QuickUpdate, RowStep, Leading, Over, Keeps}
 use Rattle.maps.proofs.MapBits.{bit_small, or_bit, without_bit}
 use Rattle.quick.proofs.WordLaws.{leap_end}
 use Rattle.quick.proofs.MapRules.{set_by, row_opens, update_opens}
@@ -164,12 +165,12 @@ module _ (cs : List Column) (s : Bytes) (start : ℕ) (o : AreBytes s) (few : le
           rw (number_at_lem cs i h) (carried_fair (get_or cs i no_column) g i (omega arith))
 
 -- What is said of the stops is the end of the data.
-module _ (shapes : List ℕ) (k : ℕ) (s : Bytes) (start : ℕ) (o : AreBytes s) {form size bits r : ℕ} (z : size ≡ map_in form) (e : bits ≡ map_bits s start) where
+module _ (shapes : List ℕ) (k : ℕ) (s : Bytes) (start : ℕ) (o : AreBytes s) {form size bits : ℕ} (r : Option ℕ) (z : size ≡ map_in form) (e : bits ≡ map_bits s start) where
   -- original row data whose map is whole and keeps the mask
   pub row_says :
       {always : ℕ} → form ≡ get_or shapes (8 * k) 0 → bit_and bits (get_or shapes (8 * k + 2) 0) ≡ 0 → start + size ≤ length s → always ≡ always_in form →
       Over shapes form (bit_or bits always) s (start + size) r → QuickRow shapes k s start r
-  row_says {always} g m l w over cs shape = by (over (bit_set (drop start s)) (data_stops false cs) leading)
+  row_says {always} g m l w over cs shape = IfSome_then r (over (bit_set (drop start s)) (data_stops false cs) leading) by
     where
       f : Formed shapes form false cs
       f = rw g shape.row
@@ -190,20 +191,19 @@ module _ (shapes : List ℕ) (k : ℕ) (s : Bytes) (start : ℕ) (o : AreBytes s
           }
 
       by :
-          (r ≡ 0) ⊎ ((n : ℕ) × (leap (bit_set (drop start s)) s (data_stops false cs) (tail_in form) (place (start + size) 0) ≡ ok (place r n))) →
-          Says (row_end cs s start) r
-      by (inl n) = inl n
-      by (inr (n, t)) =
-          let u : leap (bit_set (drop start s)) s (data_stops false cs) (tail_from is_stop 0 (marks 0 cs)) (place (start + presence_bytes cs) 0) ≡ ok (place r n) =
+          (e : ℕ) → (n : ℕ) × (leap (bit_set (drop start s)) s (data_stops false cs) (tail_in form) (place (start + size) 0) ≡ ok (place e n)) →
+          row_end cs s start ≡ ok e
+      by e (n, t) =
+          let u : leap (bit_set (drop start s)) s (data_stops false cs) (tail_from is_stop 0 (marks 0 cs)) (place (start + presence_bytes cs) 0) ≡ ok (place e n) =
           rw (← b, ← f.tail) t in
-          inr (original_ends cs s start (start + presence_bytes cs) opens ∙ bind_of _ u)
+          original_ends cs s start (start + presence_bytes cs) opens ∙ bind_of _ u
 
   -- update data whose maps are whole and keep the masks
   pub update_says :
       {forced : ℕ} → form ≡ get_or shapes (8 * k + 1) 0 → forced ≡ map_bits s (start + size) →
       Keeps bits forced (get_or shapes (8 * k + 3) 0) (get_or shapes (8 * k + 4) 0) (get_or shapes (8 * k + 5) 0) → start + 2 * size ≤ length s →
       Over shapes form (bit_xor bits (bit_and bits forced)) s (start + 2 * size) r → QuickUpdate shapes k s start r
-  update_says {forced} g a keep l over cs nested shape = by (over (carried_bit cs s start) (data_stops true cs) leading)
+  update_says {forced} g a keep l over cs nested shape = IfSome_then r (over (carried_bit cs s start) (data_stops true cs) leading) by
     where
       f : Formed shapes form true cs
       f = rw g (shape.update nested)
@@ -227,12 +227,11 @@ module _ (shapes : List ℕ) (k : ℕ) (s : Bytes) (start : ℕ) (o : AreBytes s
           }
 
       by :
-          (r ≡ 0) ⊎ ((n : ℕ) × (leap (carried_bit cs s start) s (data_stops true cs) (tail_in form) (place (start + 2 * size) 0) ≡ ok (place r n))) →
-          Says (update_end cs s start) r
-      by (inl n) = inl n
-      by (inr (n, t)) =
-          let u : leap (carried_bit cs s start) s (data_stops true cs) 0 (place (start + 2 * update_bytes cs) 0) ≡ ok (place r n) = rw (b, f.tail) at t in
-          inr (update_ends cs s start (start + 2 * update_bytes cs) opens ∙ bind_of _ u)
+          (e : ℕ) → (n : ℕ) × (leap (carried_bit cs s start) s (data_stops true cs) (tail_in form) (place (start + 2 * size) 0) ≡ ok (place e n)) →
+          update_end cs s start ≡ ok e
+      by e (n, t) =
+          let u : leap (carried_bit cs s start) s (data_stops true cs) 0 (place (start + 2 * update_bytes cs) 0) ≡ ok (place e n) = rw (b, f.tail) at t in
+          update_ends cs s start (start + 2 * update_bytes cs) opens ∙ bind_of _ u
 
 -- Original rows without a map: none of their columns is nullable, so that none is a nullable chapter.
 none_marked : (cs : List Column) → presence_bytes cs ≡ 0 → Covers 0 is_marked (marks 0 cs)
@@ -257,11 +256,10 @@ rigid_both form told e =
     (omega (arith, z), omega (arith, z))
 
 -- where all original rows have one size, that is where they end
-pub rigid_says :
+pub rigid_row :
     (shapes : List ℕ) (k : ℕ) (s : Bytes) (start : ℕ) (o : AreBytes s) {form r : ℕ} → form ≡ get_or shapes (8 * k) 0 → stops_in form ≡ 0 → map_in form ≡ 0 →
-    (r ≡ 0) ⊎ ((r ≡ start + tail_in form) × (r ≤ length s)) → QuickRow shapes k s start r
-rigid_says shapes k s start o {form} {r} g n z (inl e) cs shape = inl e
-rigid_says shapes k s start o {form} {r} g n z (inr (e, l)) cs shape = inr (original_ends cs s start (start + presence_bytes cs) opens ∙ bind_of _ ends)
+    (r ≡ start + tail_in form) × (r ≤ length s) → (cs : List Column) → Shape shapes k cs → row_end cs s start ≡ ok r
+rigid_row shapes k s start o {form} {r} g n z (e, l) cs shape = original_ends cs s start (start + presence_bytes cs) opens ∙ bind_of _ ends
   where
     f : Formed shapes form false cs
     f = rw g shape.row
@@ -282,12 +280,11 @@ rigid_says shapes k s start o {form} {r} g n z (inr (e, l)) cs shape = inr (orig
         let t : start + tail_from is_stop 0 (marks 0 cs) ≡ r = omega (arith, e, f.tail) in
         rw here (leap_end (bit_set (drop start s)) s (stops_from is_nullable is_stop 0 (marks 0 cs)) (tail_from is_stop 0 (marks 0 cs)) 0 start 0 (omega (arith, f.count, n)) (omega (arith, t, l)) ∙ rw t refl)
 
+pub rigid_says :
+    (shapes : List ℕ) (k : ℕ) (s : Bytes) (start : ℕ) (o : AreBytes s) {form : ℕ} (r : Option ℕ) → form ≡ get_or shapes (8 * k) 0 → stops_in form ≡ 0 →
+    map_in form ≡ 0 → IfSome r (λ e. (e ≡ start + tail_in form) × (e ≤ length s)) → QuickRow shapes k s start r
+rigid_says shapes k s start o r g n z h cs shape = IfSome_then r h (λ e q. rigid_row shapes k s start o g n z q cs shape)
+
 -- the step from parent to parent
 pub step_says : (shapes : List ℕ) {form r : ℕ} → form ≡ get_or shapes 0 0 → stops_in form ≡ 0 → map_in form ≡ 0 → r ≡ 1 + tail_in form → RowStep shapes r
-step_says shapes {form} {r} g n z e cs shape one s o at l =
-    let z₀ : at + 1 + tail_in form ≡ at + r = omega (arith, e) in
-    by (rigid_says shapes 0 s (at + 1) o g n z (inr (sym z₀, l)) cs shape)
-  where
-    by : Says (row_end cs s (at + 1)) (at + r) → row_end cs s (at + 1) ≡ ok (at + r)
-    by (inl x) = absurd (omega (arith, x, one))
-    by (inr q) = q
+step_says shapes {form} {r} g n z e cs shape one s o at l = rigid_row shapes 0 s (at + 1) o g n z (omega (arith, e), l) cs shape

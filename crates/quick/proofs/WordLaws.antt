@@ -2,7 +2,7 @@
 -- Assumes nothing.
 use Prim.Native.Nat.{ℕ, ◌+◌, ◌*◌, ◌<◌, ◌≤◌}
 use mathlib.Core.Path.{◌≡◌, refl, sym, ap, ◌∙◌, subst}
-use mathlib.Core.Logic.{inr}
+use Rattle.std.specs.Prelude.{Some}
 use mathlib.Core.List.{List}
 use mathlib.Core.Bool.{Bool}
 use native.Mathlib.Numerals.{add-one}
@@ -34,11 +34,8 @@ leap_end on s ts tail i p n h l = simp (drop_of_length-le ts h, le-leb (p + tail
 lead_own : {on : ℕ → Bool} {bits word mask : ℕ} {t : Stop} → Leads on bits word mask t → Leads on bits word mask (stop_in word)
 lead_own {on} {bits} {word} {mask} {t} l = subst (λ (x : Stop). Leads on bits word mask x) (sym l.says.stop) l
 
--- Before the word at j, which is word number i: the leap over all stops goes on from the two sums, over those that are left.
-pub record AtWord (shapes : List ℕ) (form bits : ℕ) (s : Bytes) (fields lead lengths j : ℕ) : Type 0 where
-  pub i : ℕ
-  pub at : j ≡ first_in form + 2 * i
-  pub high : i ≤ stops_in form
+-- Before word number i: the leap over all stops goes on from the two sums, over those that are left.
+pub record AtWord (shapes : List ℕ) (form bits : ℕ) (s : Bytes) (fields lead lengths i : ℕ) : Type 0 where
   pub near : lead ≤ 16777216 + 131072 * i
   pub short : lengths ≤ 4294967296 * i
   pub goes :
@@ -46,33 +43,27 @@ pub record AtWord (shapes : List ℕ) (form bits : ℕ) (s : Bytes) (fields lead
       (n : ℕ) × (leap on s ts (tail_in form) (place fields 0) ≡ leap on s (drop i ts) (tail_in form) (place (lead + lengths) n))
 
 module _ (shapes : List ℕ) (form bits : ℕ) (s : Bytes) (fields : ℕ) where
-  pub word_start : fields ≤ 16777216 → AtWord shapes form bits s fields fields 0 (first_in form)
+  pub word_start : fields ≤ 16777216 → AtWord shapes form bits s fields fields 0 0
   word_start h =
       record {
-        i = 0;
-        at = omega arith;
-        high = omega arith;
         near = omega arith;
         short = omega arith;
         goes = λ on ts l. let y : fields + 0 ≡ fields = omega arith in (0, rw y refl);
       }
 
-  module _ {lead lengths j : ℕ} (here : AtWord shapes form bits s fields lead lengths j) where
+  module _ {lead lengths i : ℕ} (here : AtWord shapes form bits s fields lead lengths i) where
     -- the sums are far from the greatest number
-    pub word_small : (lead ≤ 17179869184) × (lengths ≤ 562949953421312)
-    word_small =
-        let a : here.i ≤ 255 = omega (arith, here.high) in
+    pub word_small : i ≤ stops_in form → (lead ≤ 17179869184) × (lengths ≤ 562949953421312)
+    word_small h =
+        let a : i ≤ 255 = omega (arith, h) in
         (omega (arith, here.near), omega (arith, here.short))
 
     pub word_next :
-        {next more : ℕ} → j + 1 < first_in form + 2 * stops_in form →
-        Passes (get_or shapes j 0) (get_or shapes (j + 1) 0) bits s (lead + lengths) (next + (lengths + more)) →
-        next ≤ lead + 131072 → more ≤ 4294967296 → AtWord shapes form bits s fields next (lengths + more) (j + 2)
-    word_next {next} {more} h passes a b =
+        {next more first : ℕ} → first ≡ first_in form → i < stops_in form →
+        Passes (get_or shapes (first + 2 * i) 0) (get_or shapes (first + 2 * i + 1) 0) bits s (lead + lengths) (next + (lengths + more)) →
+        next ≤ lead + 131072 → more ≤ 4294967296 → AtWord shapes form bits s fields next (lengths + more) (i + 1)
+    word_next {next} {more} {first} f h passes a b =
         record {
-          i = here.i + 1;
-          at = omega (arith, here.at);
-          high = omega (arith, here.at);
           near = omega (arith, here.near);
           short = omega (arith, here.short);
           goes = onward;
@@ -80,19 +71,17 @@ module _ (shapes : List ℕ) (form bits : ℕ) (s : Bytes) (fields : ℕ) where
       where
         onward :
             (on : ℕ → Bool) (ts : List Stop) → Leading shapes form on bits ts →
-            (n : ℕ) × (leap on s ts (tail_in form) (place fields 0) ≡ leap on s (drop (here.i + 1) ts) (tail_in form) (place (next + (lengths + more)) n))
+            (n : ℕ) × (leap on s ts (tail_in form) (place fields 0) ≡ leap on s (drop (i + 1) ts) (tail_in form) (place (next + (lengths + more)) n))
         onward on ts l =
-            let i : ℕ = here.i in
             let (n, e) = here.goes on ts l in
-            let k : i < length ts = omega (arith, l.count, here.at) in
-            let word : Leads on bits (get_or shapes j 0) (get_or shapes (j + 1) 0) (get_or ts i no_stop) = rw (← here.at) at (l.leads i k) in
+            let k : i < length ts = omega (arith, l.count) in
+            let word : Leads on bits (get_or shapes (first + 2 * i) 0) (get_or shapes (first + 2 * i + 1) 0) (get_or ts i no_stop) = rw f (l.leads i k) in
             let (m, p) = passes on (lead_own word) n in
             let q : passed on s (get_or ts i no_stop) (place (lead + lengths) n) ≡ ok (place (next + (lengths + more)) m) =
             ap (λ (t : Stop). passed on s t (place (lead + lengths) n)) (sym word.says.stop) ∙ p in
             (m, e ∙ leap_next on s ts (tail_in form) i _ _ k q)
 
-    pub word_end :
-        {end : ℕ} → first_in form + 2 * stops_in form ≤ j + 1 → end ≡ lead + lengths + tail_in form → end ≤ length s → Over shapes form bits s fields end
+    pub word_end : {end : ℕ} → stops_in form ≤ i → end ≡ lead + lengths + tail_in form → end ≤ length s → Over shapes form bits s fields (Some end)
     word_end {end} h e l on ts leading =
         let (n, g) = here.goes on ts leading in
-        inr (n, g ∙ leap_end on s ts (tail_in form) here.i (lead + lengths) n (omega (arith, leading.count, here.at)) (omega arith) ∙ rw e refl)
+        (n, g ∙ leap_end on s ts (tail_in form) i (lead + lengths) n (omega (arith, leading.count)) (omega arith) ∙ rw e refl)

@@ -1,6 +1,6 @@
 -- Promise: the quick way over row data: what it says is where they end.
 -- Assumes nothing.
-use Rattle.std.specs.Prelude.{ℕ, ◌+◌, ◌*◌, ◌<◌, ◌≤◌, ◌≡◌, ◌⊎◌, List, Bool, true, eqb, length, get_or}
+use Rattle.std.specs.Prelude.{ℕ, ◌+◌, ◌*◌, ◌<◌, ◌≤◌, ◌≡◌, List, Bool, true, eqb, length, get_or, Option, IfSome}
 use Rattle.std.specs.Int.Bits.{bit_and}
 use Rattle.wire.specs.Read.{Bytes, AreBytes, Read, ok, pick}
 use Rattle.maps.specs.Maps.{top_bit}
@@ -14,16 +14,16 @@ use Rattle.walk.specs.Leaps.{leap}
 use Rattle.shapes.specs.Shapes.{first_in, stops_in, tail_in, bit_mask, SayOne}
 use Rattle.shapes.specs.Masks.{Shape}
 
--- 0 says nothing; any other number is the end
-abbrev pub Says : Read ℕ → (r : ℕ) → Type 0
-Says end r = (r ≡ 0) ⊎ (end ≡ ok r)
+-- a number is the end
+abbrev pub Says : Read ℕ → Option ℕ → Type 0
+Says end r = IfSome r (λ e. end ≡ ok e)
 
 -- The quick end of original row data: that of all columns of which this is the shape.
-abbrev pub QuickRow : (shapes : List ℕ) (k : ℕ) → Bytes → (start r : ℕ) → Type 0
+abbrev pub QuickRow : (shapes : List ℕ) (k : ℕ) → Bytes → (start : ℕ) → Option ℕ → Type 0
 QuickRow shapes k s start r = (cs : List Column) → Shape shapes k cs → Says (row_end cs s start) r
 
 -- that of update data; no row of the top schema has such
-abbrev pub QuickUpdate : (shapes : List ℕ) (k : ℕ) → Bytes → (start r : ℕ) → Type 0
+abbrev pub QuickUpdate : (shapes : List ℕ) (k : ℕ) → Bytes → (start : ℕ) → Option ℕ → Type 0
 QuickUpdate shapes k s start r = (cs : List Column) → 1 ≤ k → Shape shapes k cs → Says (update_end cs s start) r
 
 -- How far it is from one parent to the next, where all original row data of the top schema have one size: a token and the data. 0 says nothing.
@@ -44,9 +44,9 @@ pub record Leading (shapes : List ℕ) (form : ℕ) (on : ℕ → Bool) (bits : 
   pub leads : (i : ℕ) → i < length ts → Leads on bits (get_or shapes (first_in form + 2 * i) 0) (get_or shapes (first_in form + 2 * i + 1) 0) (get_or ts i no_stop)
 
 -- what is said of the way over a form's words: where it ends over whatever stops they lead
-abbrev pub Over : (shapes : List ℕ) (form bits : ℕ) → Bytes → (fields r : ℕ) → Type 0
+abbrev pub Over : (shapes : List ℕ) (form bits : ℕ) → Bytes → (fields : ℕ) → Option ℕ → Type 0
 Over shapes form bits s fields r =
-    (on : ℕ → Bool) (ts : List Stop) → Leading shapes form on bits ts → (r ≡ 0) ⊎ ((n : ℕ) × (leap on s ts (tail_in form) (place fields 0) ≡ ok (place r n)))
+    (on : ℕ → Bool) (ts : List Stop) → Leading shapes form on bits ts → IfSome r (λ e. (n : ℕ) × (leap on s ts (tail_in form) (place fields 0) ≡ ok (place e n)))
 
 -- r is the bit among these bits that a mask has, whichever it is
 abbrev pub Tells : (mask bits r : ℕ) → Type 0

@@ -1,23 +1,21 @@
 // What an original row is asked by others, piece by piece: whether it opens, and which columns it has a field of.
 ghost use Rattle.std.specs.Prelude.{◌≡◌, ◌<◌, length};
-ghost use Rattle.wire.specs.Integers.{told_int};
+ghost use Rattle.wire.specs.Read.{told};
 ghost use Rattle.column.specs.Layout.{columns_in};
 ghost use Rattle.walk.specs.Presence.{mark_of, present};
 ghost use Rattle.walk.specs.Rows.{opened};
 
-use crate::column_of;
 use crate::rows::{count_nullable, is_present, open_row};
 use column::columns::{Columns, pack_all};
-use wire::integer::IntRead;
-use wire::lesser;
+use column::packed::unpack_slot;
+use wire::error::Error;
 
 // The row at `at` opens: where its fields start.
-pub fn opened(columns: Columns, row: &[u8], at: usize) -> IntRead
-    ensures { told_int result ≡ opened (columns_in columns) row.now at }
+pub fn opened(columns: Columns, row: &[u8], at: usize) -> Result<usize, Error>
+    ensures { told result ≡ opened (columns_in columns) row.now at }
 {
-    let n = lesser(columns.count, 64);
     let slots = pack_all(columns);
-    open_row(&slots, n, row, at)
+    open_row(&slots[..columns.count.min(64)], row, at)
 }
 
 // Whether a row with this map has a field of column `i`.
@@ -28,5 +26,5 @@ pub fn has_field(columns: Columns, map: &[u8], i: usize) -> bool
         return false;
     }
     let slots = pack_all(columns);
-    is_present(column_of(&slots, i), count_nullable(&slots, i), map)
+    is_present(unpack_slot(slots[i]), count_nullable(&slots[..i]), map)
 }

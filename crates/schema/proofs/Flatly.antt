@@ -32,14 +32,15 @@ laid_over_lem (suc n) slots table a b =
     rw (z, laid_over_lem n slots table (omega (arith, a)) (omega (arith, b))) (laid_next slots table n a b)
 
 pub flat_end :
-    (b : Bytes) (n from : ℕ) {slots : List ℕ} (r : Run) → length b ≤ limit → range_at 1 most_columns b 0 ≡ ok (found n from) → n ≤ most_columns →
+    (b : Bytes) (n from : ℕ) {slots : List ℕ} (r : Run) → length b ≤ limit → range_at 1 most_columns b 0 ≡ ok (found n from) → 1 ≤ n → n ≤ most_columns →
     RanInto b from n slots r → n ≤ r.count → length b ≤ r.at → Flat b slots n
 unfolding fill_file check
-flat_end b n from {slots} r size count m p l e =
+flat_end b n from {slots} r size count k m p l e =
     record {
+      some = k;
       few = m;
-      long = λ some. p.long;
-      reads = λ some table long.
+      long = p.long;
+      reads = λ table long.
           let x : r.at ≡ length b = omega (arith, e, p.inside) in
           let y : r.count ≡ n = omega (arith, l, p.few) in
           let opened : List ℕ = set table (schema_slot 0) (block 0 n 0) in
@@ -55,7 +56,3 @@ flat_end b n from {slots} r size count m p l e =
           ∙ rw (x, y, z, laid) (columns_end (fill_schema 3 b) b n (filled (length b) n 1 (laid_over n slots opened)) (n - n) w) in
           simp (sized_within b size, filling, le-leb (length b) (length b) (omega arith));
     }
-
--- 0 says nothing
-pub nothing_said : (b : Bytes) (slots : List ℕ) → Flat b slots 0
-nothing_said b slots = record { few = omega arith; long = λ some. absurd (omega (arith, some)); reads = λ some table long. absurd (omega (arith, some)) }

@@ -1,17 +1,21 @@
 -- Laws of the schema reader and the column reader as code does them: ids in the table, and columns one after the other.
 -- Assumes nothing.
-use Prim.Native.Nat.{ℕ, suc, ◌+◌, ◌-◌, ◌≤◌, ◌<◌}
+use Rattle.std.specs.Prelude.{Result, Ok, Err, IsErrAnd}
+use Rattle.std.proofs.lemmas.Result.{err_from_is_err_and}
+use Prim.Native.Nat.{ℕ, zero, suc, ◌+◌, ◌-◌, ◌≤◌, ◌<◌}
 use mathlib.Core.Path.{◌≡◌, refl, sym, ap, ◌∙◌}
 use mathlib.Core.List.{List}
-use mathlib.Core.Bool.{true, false, not}
+use mathlib.Core.Bool.{Bool, true, false, not, ◌||◌}
 use native.Mathlib.Omega.{arith}
 use lib.ListN.{get_or, set}
-use borrow.Author.Tests.{le-leb, lt-leb, eq-eqb, ne_eqb}
+use borrow.Author.Tests.{le-leb, lt-leb}
 use Rattle.wire.specs.declared.error.Error.{Error}
 use Rattle.wire.specs.declared.error.Input.TheVariants.{Single}
-use Rattle.wire.specs.Read.{Bytes, Read, ok, bad, ◌>>=◌, check, refused}
+use Rattle.wire.specs.Read.{Bytes, Read, ok, bad, ◌>>=◌, pick, check, refused}
 use Rattle.schema.specs.declared.reader.Place.{Place}
 use Rattle.column.specs.Layout.{most_columns}
+use Rattle.std.specs.List.{list_any, range_with_len}
+use lib.Dec.{eqb}
 use Rattle.tree.specs.Tree.{most_file_columns, member}
 use Rattle.tree.specs.Table.{schema_slot, id_in, ids_from, ids_in, packed, block}
 use Rattle.column.specs.declared.types.Kind.{Kind}
@@ -20,35 +24,27 @@ use Rattle.column.specs.Types.{chapter_code, kind_of}
 use Rattle.tree.specs.Numbers.{Found, found, number_at}
 use Rattle.tree.specs.Filling.{Filled, filled, moved, holding, range_at, fill_fixed, fill_variable, fill_chapter, fill_kind, fill_column, fill_columns, fill_schema}
 use Rattle.entry.specs.Heads.{Head, field_head, id_head, fixed_head, variable_head, chapter_head, head_by, head_at}
-use Rattle.schema.specs.declared.reader.PlaceRead.{PlaceRead}
-use Rattle.schema.specs.declared.reader.PlaceRead.TheVariants.{Read as read, Refused}
-use Rattle.schema.specs.Told.{Moves}
+use Rattle.schema.specs.Told.{Moves, Told}
 
 -- Ids in the table, from number i on.
 
-module _ (table : List ℕ) (schemas id i : ℕ) where
-  pub seen_end : schemas ≤ i → member id (ids_from i (schemas - i) table) ≡ false
+module _ (table : List ℕ) (id : ℕ) where
+  one_seen : (t : Bool) {x y : Bool} → x ≡ y → (t || x) ≡ pick t true y
+  one_seen true e = refl
+  one_seen false e = e
+
+  seen_from : (n i : ℕ) → list_any (λ (k : ℕ). eqb id (id_in (get_or table (schema_slot k) 0))) (range_with_len i n) ≡ member id (ids_from i n table)
   unfolding ids_from member
-  seen_end h =
-      let z : schemas - i ≡ 0 = omega arith in
-      rw z refl
+  seen_from zero i = refl
+  seen_from (suc n) i = one_seen (eqb id (id_in (get_or table (schema_slot i) 0))) (seen_from n (i + 1))
 
-  module _ (h : i < schemas) where
-    pub seen_hit : id_in (get_or table (schema_slot i) 0) ≡ id → member id (ids_from i (schemas - i) table) ≡ true
-    unfolding ids_from member
-    seen_hit e =
-        let z : schemas - i ≡ suc (schemas - (i + 1)) = omega arith in
-        rw z (rw (eq-eqb id (id_in (get_or table (schema_slot i) 0)) (sym e)) refl)
-
-    pub seen_next : (id_in (get_or table (schema_slot i) 0) ≡ id → ⊥) → member id (ids_from i (schemas - i) table) ≡ member id (ids_from (i + 1) (schemas - (i + 1)) table)
-    unfolding ids_from member
-    seen_next e =
-        let z : schemas - i ≡ suc (schemas - (i + 1)) = omega arith in
-        rw z (rw (ne_eqb id (id_in (get_or table (schema_slot i) 0)) (λ f. e (sym f))) refl)
+  pub seen_any : (schemas : ℕ) → list_any (λ (k : ℕ). eqb id (id_in (get_or table (schema_slot k) 0))) (range_with_len 1 (schemas - 1)) ≡ member id (ids_in schemas table)
+  unfolding ids_in
+  seen_any schemas = seen_from (schemas - 1) 1
 
 -- A column by its numbers.
 
--- what is done with them: the column goes into slot i, and a chapter's schema is read
+-- what is done with them: the column goes into slot i, and a chapter's schema is Ok
 abbrev pub head_then : (nest : ℕ → Filled → Read Filled) → (i : ℕ) → Filled → Read Head → Read Filled
 head_then nest i f (ok (field_head code flags maximum end)) = ok (moved end (holding i (packed code flags maximum 0) f))
 head_then nest i f (ok (id_head flags id id_at end)) =
@@ -200,7 +196,16 @@ module _
 
 -- what moves on from a later place moves on from an earlier one
 pub moves_from :
-    (b : Bytes) (p q : Place) (r : PlaceRead) → p.at ≤ q.at → p.columns ≤ q.columns → p.schemas ≤ q.schemas → Moves b q r → Moves b p r
-moves_from b p q (read x) f c s m =
+    (b : Bytes) (p q : Place) (r : Result Place Error) → p.at ≤ q.at → p.columns ≤ q.columns → p.schemas ≤ q.schemas → Moves b q r → Moves b p r
+moves_from b p q (Ok x) f c s m =
     record { ready = m.ready; further = omega (arith, m.further); columns = omega (arith, m.columns); schemas = omega (arith, m.schemas) }
-moves_from b p q (Refused e) f c s m = tt
+moves_from b p q (Err e) f c s m = tt
+
+-- an error is what the definition says, also one that came from a part
+pub told_refused : {b : Bytes} {p : Place} {filling : Read Filled} {exit : List ℕ} (e : Error) → filling ≡ refused e → Told b p filling exit (Err e)
+told_refused e h = record { answers = sym h; moves = tt }
+
+pub told_passed :
+    {b : Bytes} {p : Place} {filling : Read Filled} {exit : List ℕ} (r : Result Place Error) (e : Error) → IsErrAnd r (λ x. x ≡ e) → filling ≡ refused e →
+    Told b p filling exit r
+told_passed r e i h = let x = err_from_is_err_and r i in rw (x.1, x.2) (told_refused e h)

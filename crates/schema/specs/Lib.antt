@@ -1,4 +1,5 @@
 pub mod Told
+pub mod Children
 pub mod Flat
 -- Inner.
 pub mod Runs

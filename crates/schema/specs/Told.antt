@@ -1,10 +1,9 @@
 -- Promise: what the code's answers say, in the terms of the reader that fills a table.
 -- Assumes nothing.
-use Rattle.std.specs.Prelude.{ℕ, ◌≤◌, ◌≡◌, List, length, replicate}
+use Rattle.std.specs.Prelude.{ℕ, ◌≤◌, ◌≡◌, List, length, replicate, Result, Ok, Err}
+use Rattle.wire.specs.declared.error.Error.{Error}
 use Rattle.wire.specs.Read.{Bytes, Read, ok, refused}
 use Rattle.schema.specs.declared.reader.Place.{Place}
-use Rattle.schema.specs.declared.reader.PlaceRead.{PlaceRead}
-use Rattle.schema.specs.declared.reader.PlaceRead.TheVariants.{Read as read, Refused}
 use Rattle.tree.specs.Tree.{most_file_columns}
 use Rattle.tree.specs.Table.{table_size}
 use Rattle.tree.specs.Filling.{Filled, filled}
@@ -14,9 +13,9 @@ abbrev pub placed : Place → List ℕ → Filled
 placed p table = filled p.at p.columns p.schemas table
 
 -- an answer with the table that the code leaves
-abbrev pub told_place : PlaceRead → List ℕ → Read Filled
-told_place (read p) table = ok (placed p table)
-told_place (Refused e) table = refused e
+abbrev pub told_place : Result Place Error → List ℕ → Read Filled
+told_place (Ok p) table = ok (placed p table)
+told_place (Err e) table = refused e
 
 -- a table with nothing in it
 abbrev pub blank : List ℕ
@@ -37,11 +36,11 @@ pub record Onward (b : Bytes) (p q : Place) : Type 0 where
   pub columns : p.columns ≤ q.columns
   pub schemas : p.schemas ≤ q.schemas
 
-abbrev pub Moves : Bytes → Place → PlaceRead → Type 0
-Moves b p (read q) = Onward b p q
-Moves b p (Refused e) = Unit {0}
+abbrev pub Moves : Bytes → Place → Result Place Error → Type 0
+Moves b p (Ok q) = Onward b p q
+Moves b p (Err e) = Unit {0}
 
 -- what the code promises of a part of a file, where the definition says `filling`
-pub record Told (b : Bytes) (p : Place) (filling : Read Filled) (exit : List ℕ) (r : PlaceRead) : Type 0 where
+pub record Told (b : Bytes) (p : Place) (filling : Read Filled) (exit : List ℕ) (r : Result Place Error) : Type 0 where
   pub answers : told_place r exit ≡ filling
   pub moves : Moves b p r

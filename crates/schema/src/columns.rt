@@ -6,29 +6,27 @@ ghost use Rattle.tree.specs.Schemas.{as_column};
 ghost use Rattle.tree.specs.Table.{entries_in};
 
 use crate::MOST_FILE_COLUMNS;
+use crate::slot::ID;
+use column::column::Column;
 use column::columns::{Columns, MOST_COLUMNS};
 use column::packed::unpack;
-use wire::lesser;
 
 // The columns in `count` slots from `start` on. Of more than a schema has, the first; from slots of columns, at most the last.
 pub fn columns_in(table: &[u64; 512], start: usize, count: usize) -> Columns
     ensures { result ≡ layout (map as_column (entries_in (min start 256) (min count 64) table.now)) }
 {
-    let first = lesser(start, MOST_FILE_COLUMNS);
-    let n = lesser(count, MOST_COLUMNS);
+    let first = start.min(MOST_FILE_COLUMNS);
+    let n = count.min(MOST_COLUMNS);
     let mut columns = Columns {
         count: n,
-        codes: [0u8; 64],
-        flags: [0u8; 64],
-        maxima: [0u16; 64],
+        columns: [Column {
+            code: 0,
+            flags: 0,
+            maximum: 0,
+        }; 64],
     };
-    let mut i = 0;
-    while i < n {
-        let column = unpack(table[first + i] as usize);
-        columns.codes[i] = column.code;
-        columns.flags[i] = column.flags;
-        columns.maxima[i] = column.maximum;
-        i += 1;
+    for i in 0..n {
+        columns.columns[i] = unpack(table[first + i] as usize);
     }
     columns
 }
@@ -37,12 +35,10 @@ pub fn columns_in(table: &[u64; 512], start: usize, count: usize) -> Columns
 pub fn slots_in(table: &[u64; 512], start: usize, count: usize, slots: &mut [u32; 64])
     ensures { packed_from (min count 64) 0 slots.new ≡ map as_column (entries_in (min start 256) (min count 64) table.now) }
 {
-    let first = lesser(start, MOST_FILE_COLUMNS);
-    let n = lesser(count, MOST_COLUMNS);
+    let first = start.min(MOST_FILE_COLUMNS);
+    let n = count.min(MOST_COLUMNS);
     *slots = [0u32; 64];
-    let mut i = 0;
-    while i < n {
-        slots[i] = (table[first + i] % 4_294_967_296) as u32;
-        i += 1;
+    for i in 0..n {
+        slots[i] = (table[first + i] % ID) as u32;
     }
 }

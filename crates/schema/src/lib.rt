@@ -7,6 +7,7 @@ pub mod columns;
 pub mod flat;
 pub mod reader;
 pub mod runs;
+pub mod slot;
 
 // The most columns of a file, and so the most schemas: a table has as many slots for each.
 pub const MOST_FILE_COLUMNS: usize = 256;

@@ -4,7 +4,6 @@ ghost use Rattle.schema.specs.Runs.{laid_from, Ran, RanInto};
 
 use column::columns::MOST_COLUMNS;
 use entry::usual::{Usual, plain_at};
-use wire::lesser;
 
 // So many columns that were read one after the other, and the offset behind them.
 #[derive(Clone, Copy)]
@@ -19,27 +18,18 @@ pub(crate) fn read_run(file: &[u8], from: usize, most: usize, slots: &mut [u32; 
     ensures { RanInto file.now from most slots.new result }
 {
     let mut at = from;
-    let mut count = 0;
-    while count < most {
+    for count in 0..most {
         match plain_at(file, at) {
-            Usual::Unusual => {
+            None => {
                 return Run { count, at };
             }
-            Usual::Column { slot, end } => {
+            Some(Usual { slot, end }) => {
                 slots[count] = slot as u32;
                 at = end;
-                count += 1;
             }
         }
     }
-    Run { count, at }
-}
-
-// A slot of 32 bits as one of a table.
-fn widened(slot: u32) -> u64
-    ensures { result ≡ slot }
-{
-    slot as u64
+    Run { count: most, at }
 }
 
 // The first so many slots into those of a table from `slot` on.
@@ -47,10 +37,8 @@ fn lay(slots: &[u32; 64], count: usize, slot: usize, table: &mut [u64; 512])
     requires { (count ≤ 64) × (slot + count ≤ 256) }
     ensures { table.new ≡ laid_from slot count slots.now table.old }
 {
-    let mut i = 0;
-    while i < count {
-        table[slot + i] = widened(slots[i]);
-        i += 1;
+    for i in 0..count {
+        table[slot + i] = u64::from(slots[i]);
     }
 }
 
@@ -66,7 +54,7 @@ pub(crate) fn read_columns(
     ensures { Ran file.now from slot most table.old table.new result }
 {
     let mut slots = [0u32; 64];
-    let run = read_run(file, from, lesser(most, MOST_COLUMNS), &mut slots);
+    let run = read_run(file, from, most.min(MOST_COLUMNS), &mut slots);
     lay(&slots, run.count, slot, table);
     run
 }

@@ -1,5 +1,7 @@
 -- Filling the table of a section that was accepted: what holds before an element, and how each element keeps it.
 -- Assumes nothing.
+use Rattle.std.specs.Prelude.{Option, Some, None, Result, Ok, Err}
+use Rattle.wire.specs.declared.error.Error.{Error}
 use Prim.Native.Nat.{ℕ, zero, suc, ◌+◌, ◌*◌, ◌-◌, ◌/◌, ◌%◌, ◌<◌, ◌≤◌}
 use mathlib.Core.Path.{◌≡◌, refl, sym, ap, ◌∙◌, subst}
 use mathlib.Core.Logic.{◌⊎◌, inl, inr}
@@ -11,26 +13,26 @@ use lib.ListN.{length, get_or}
 use lib.Dec.{eqb}
 use borrow.Author.Tests.{eqb-false, ne_eqb}
 use Rattle.wire.specs.Read.{Bytes, AreBytes, Read, ok, bad, pick}
+use Rattle.wire.specs.Read.{told as told_answer}
 use Rattle.wire.specs.Output.{put}
 use Rattle.wire.proofs.Pieces.{ok_ok, bad_ok}
 use Rattle.column.specs.declared.column.Column.{Column}
 use Rattle.walk.specs.Rows.{row_end}
 use Rattle.tree.specs.Schemas.{Schema, child_number, or0}
-use Rattle.grammar.specs.Grammar.{columns_at, Row, entry}
+use Rattle.grammar.specs.Grammar.{columns_at, Row}
 use Rattle.grammar.specs.Reader.{Token, parent_token, child_token, change_token, delete_token, done_token, unknown_token, token_of, id_at, section}
 use Rattle.grammar.specs.Pending.{Pending, nothing, child_row_lem, before_of, flush}
 use Rattle.grammar.proofs.Pending.{rows_are_section}
 use Rattle.section.specs.declared.table.Entry.{Entry}
 use Rattle.section.specs.declared.notes.Size.{Size}
 use Rattle.section.specs.Heads.{HeadAt, head_at}
-use Rattle.section.specs.Table.{row_numbers, SmallRow}
+use Rattle.section.specs.Table.{row_numbers, row_of, SmallRow}
 use Rattle.section.specs.Runs.{Run, laid_run}
 use Rattle.section.specs.Scan.{Ready, laid_from}
 use Rattle.tree.specs.Table.{schemas_in}
 use Rattle.tree.proofs.TableSays.{schemas_in_length}
 use Rattle.section.proofs.Scanning.{columns_at_lem}
 use Rattle.section.specs.Sizes.{end_by, element_start, element_size, note_bytes, in_step, is_stepped, note_start, NotedSome, Accepted, NotedIs, kind_by, start_by, row_by, EntryAt, number_for, start_for, end_for, ElementEnd}
-use Rattle.section.specs.Ends.{EndIs}
 use Rattle.walk.specs.Data.{data_end}
 use Rattle.section.proofs.RowsByHead.{HeadTold, told_done, told_delete, told_parent, told_child, told_change, byte_of}
 use Rattle.section.proofs.Scan.{all_rows, AtElement, Begun, at_start, told, head_refused, head_done, deleted, Ahead, head_ahead, data_refused, data_inside, row_ended, change_ended, table_long}
@@ -207,6 +209,12 @@ module _ (S : List Schema) (s : Bytes) (entry₀ table : List ℕ) (at rows orig
             element = rw (g, n, ← j) w;
           })
 
+none_some : {m : Size} → None ≡ Some m → ⊥
+none_some e = let z : ◌≡◌ {A = ℕ} 0 1 = cc in omega arith
+
+some_some : {m k : Size} → Some m ≡ Some k → m ≡ k
+some_some e = cc
+
 -- where the notes stand before an element at `at`: at its own, or behind the last
 pub record FillNote (step : ℕ) (S : List Schema) (s : Bytes) (sizes : List ℕ) (n : NotedSome step S s sizes) (at i : ℕ) : Type 0 where
   pub elements : ℕ
@@ -233,41 +241,43 @@ module _ (step : ℕ) (S : List Schema) (s : Bytes) (sizes : List ℕ) (n : Note
           go (inr q) = inl (omega arith, u ∙ sym (note_same step S s f.elements (stepped_same step S s at e h f.elements f.place t)))
 
   -- by what is read of the notes
-  module _ (m : Size) (reads : NotedIs sizes i (in_step step (get_or s at 0)) m) (onward : at < e) where
+  module _ (r : Option Size) (reads : NotedIs sizes i (in_step step (get_or s at 0)) r) (onward : at < e) where
     size_is : e - at ≡ element_size S s f.elements
     size_is = omega (arith, there, f.place)
 
     -- a size that is noted is the element's
-    its_own : f.elements < n.elements → i ≡ note_start step S s f.elements → in_step step (get_or s at 0) ≡ false → (m.bytes ≡ e - at) × (m.next ≡ i + note_bytes (e - at))
-    its_own l u t = reads.noted (e - at) t (rw (u, size_is) (n.noted f.elements l (stepped_same step S s at e h f.elements f.place t)))
+    its_own : f.elements < n.elements → i ≡ note_start step S s f.elements → in_step step (get_or s at 0) ≡ false → r ≡ Some (record { bytes = e - at; next = i + note_bytes (e - at) })
+    its_own l u t = reads.noted (e - at) (omega (arith, onward)) t (rw (u, size_is) (n.noted f.elements l (stepped_same step S s at e h f.elements f.place t)))
 
     -- none is read behind the last
-    behind : i ≡ note_start step S s n.elements → m.bytes ≡ 0
+    behind : i ≡ note_start step S s n.elements → r ≡ None
     behind u = reads.none (ap (λ (k : ℕ). get_or sizes k 0) u ∙ n.stops)
 
-    pub fill_noted : (m.bytes ≡ 0 → ⊥) → (at + m.bytes ≡ e) × FillNote step S s sizes n e m.next
-    fill_noted z = by f.next (in_step step (get_or s at 0)) refl
+    pub fill_noted : (m : Size) → r ≡ Some m → (at + m.bytes ≡ e) × FillNote step S s sizes n e m.next
+    fill_noted m z = by f.next (in_step step (get_or s at 0)) refl
       where
         by : ((f.elements ≤ n.elements) × (i ≡ note_start step S s f.elements)) ⊎ ((n.elements ≤ f.elements) × (i ≡ note_start step S s n.elements)) →
             (b : Bool) → in_step step (get_or s at 0) ≡ b → (at + m.bytes ≡ e) × FillNote step S s sizes n e m.next
-        by c true t = absurd (z (reads.skipped t))
-        by (inr (l, u)) false t = absurd (z (behind u))
+        by c true t = absurd (none_some (sym (reads.skipped t) ∙ z))
+        by (inr (l, u)) false t = absurd (none_some (sym (behind u) ∙ z))
         by (inl (l, u)) false t = go (eq-or-lt_of_le l)
           where
             go : (f.elements ≡ n.elements) ⊎ (f.elements < n.elements) → (at + m.bytes ≡ e) × FillNote step S s sizes n e m.next
-            go (inl q) = absurd (z (behind (u ∙ ap (note_start step S s) q)))
+            go (inl q) = absurd (none_some (sym (behind (u ∙ ap (note_start step S s) q)) ∙ z))
             go (inr q) =
-                let (x, y) = its_own q u t in
+                let x : m ≡ record { bytes = e - at; next = i + note_bytes (e - at) } = some_some (sym z ∙ its_own q u t) in
+                let y : m.bytes ≡ e - at = ap (λ (k : Size). k.bytes) x in
+                let v : m.next ≡ i + note_bytes (e - at) = ap (λ (k : Size). k.next) x in
                 let g : is_stepped step S s f.elements ≡ false = stepped_same step S s at e h f.elements f.place t in (
-                  omega (arith, x, onward),
+                  omega (arith, y, onward),
                   record {
                     elements = suc f.elements;
                     place = there;
-                    next = inl (omega arith, y ∙ rw (u, size_is) refl ∙ sym (note_next step S s f.elements g));
+                    next = inl (omega arith, v ∙ rw (u, size_is) refl ∙ sym (note_next step S s f.elements g));
                   },
                 )
 
-    pub fill_asked : m.bytes ≡ 0 → FillNote step S s sizes n e i
+    pub fill_asked : r ≡ None → FillNote step S s sizes n e i
     fill_asked z = by f.next (in_step step (get_or s at 0)) refl
       where
         by : ((f.elements ≤ n.elements) × (i ≡ note_start step S s f.elements)) ⊎ ((n.elements ≤ f.elements) × (i ≡ note_start step S s n.elements)) →
@@ -278,7 +288,7 @@ module _ (step : ℕ) (S : List Schema) (s : Bytes) (sizes : List ℕ) (n : Note
           where
             go : (f.elements ≡ n.elements) ⊎ (f.elements < n.elements) → FillNote step S s sizes n e i
             go (inl q) = record { elements = suc f.elements; place = there; next = inr (omega arith, u ∙ ap (note_start step S s) q) }
-            go (inr q) = let (x, y) = its_own q u t in absurd (omega (arith, x, z, onward))
+            go (inr q) = absurd (none_some (sym z ∙ its_own q u t))
 
 -- Before an element at `at`: rows are laid, `origin` is where the data of an open child row start, and the notes stand at i.
 pub record AtFill (step : ℕ) (S : List Schema) (s : Bytes) (sizes : List ℕ) (n : NotedSome step S s sizes) (entry table : List ℕ) (at rows origin i : ℕ) : Type 0 where
@@ -345,16 +355,13 @@ module _ (step : ℕ) (S : List Schema) (s : Bytes) (sizes : List ℕ) (acc : Ac
 
     -- The entry that code makes.
     module _ (e : Entry) (same : EntryAt s at origin e) where
-      abbrev row : Row
-      row = entry e.kind e.id e.original e.update
-
-      entry_same : row ≡ row_by s at origin (get_or s at 0)
+      entry_same : row_of e ≡ row_by s at origin (get_or s at 0)
       entry_same = same.same fill_taken.whole
 
       pub entry_some : 1 ≤ rows + (1 - e.kind / 3)
       entry_some = rw same.kind fill_taken.some
 
-      pub entry_fits : length s ≤ 16777216 → (rows + (1 - e.kind / 3) - 1 ≤ 16777216) × SmallRow row
+      pub entry_fits : length s ≤ 16777216 → (rows + (1 - e.kind / 3) - 1 ≤ 16777216) × SmallRow (row_of e)
       entry_fits l = (omega (arith, f.element.few, f.element.inside), same.small)
 
       -- where it ends, by its kind and id
@@ -369,7 +376,7 @@ module _ (step : ℕ) (S : List Schema) (s : Bytes) (sizes : List ℕ) (acc : Ac
       original_low false = f.low
 
       next_at : {i' : ℕ} → FillNote step S s sizes acc.some fill_taken.end i' →
-          AtFill step S s sizes acc.some entry₀ (put table (4 * (rows + (1 - e.kind / 3) - 1)) (row_numbers row)) fill_taken.end (rows + (1 - e.kind / 3)) e.original i'
+          AtFill step S s sizes acc.some entry₀ (put table (4 * (rows + (1 - e.kind / 3) - 1)) (row_numbers (row_of e))) fill_taken.end (rows + (1 - e.kind / 3)) e.original i'
       next_at note =
           let g : e.original ≡ (row_by s at origin (get_or s at 0)).original = ap (λ (r : Row). r.original) entry_same in
           record {
@@ -384,25 +391,37 @@ module _ (step : ℕ) (S : List Schema) (s : Bytes) (sizes : List ℕ) (acc : Ac
           }
 
       -- By the size that code reads, or the end that it asks.
-      module _ (m : Size) (reads : NotedIs sizes i (in_step step (get_or s at 0)) m) where
-        noted_there : (m.bytes ≡ 0 → ⊥) → (at + m.bytes ≡ fill_taken.end) × FillNote step S s sizes acc.some fill_taken.end m.next
-        noted_there z = fill_noted step S s sizes acc.some at i f.note fill_taken.end fill_taken.ends m reads fill_taken.onward z
+      module _ (r : Option Size) (reads : NotedIs sizes i (in_step step (get_or s at 0)) r) where
+        module _ (m : Size) (z : r ≡ Some m) where
+          noted_there : (at + m.bytes ≡ fill_taken.end) × FillNote step S s sizes acc.some fill_taken.end m.next
+          noted_there = fill_noted step S s sizes acc.some at i f.note fill_taken.end fill_taken.ends r reads fill_taken.onward m z
 
-        pub size_onward : (m.bytes ≡ 0 → ⊥) → (at < at + m.bytes) × (at + m.bytes ≤ length s)
-        size_onward z = let (x, y) = noted_there z in let (a, b) = taken_inside in (omega (arith, x, a), omega (arith, x, b))
+          pub size_onward : (at < at + m.bytes) × (at + m.bytes ≤ length s)
+          size_onward = let (x, y) = noted_there in let (a, b) = taken_inside in (omega (arith, x, a), omega (arith, x, b))
 
-        pub fill_next : (m.bytes ≡ 0 → ⊥) →
-            AtFill step S s sizes acc.some entry₀ (put table (4 * (rows + (1 - e.kind / 3) - 1)) (row_numbers row)) (at + m.bytes) (rows + (1 - e.kind / 3)) e.original m.next
-        fill_next z = let (x, y) = noted_there z in rw x (next_at y)
+          pub fill_next : AtFill step S s sizes acc.some entry₀ (put table (4 * (rows + (1 - e.kind / 3) - 1)) (row_numbers (row_of e))) (at + m.bytes) (rows + (1 - e.kind / 3)) e.original m.next
+          fill_next = let (x, y) = noted_there in rw x (next_at y)
 
-        pub fill_next_asked : m.bytes ≡ 0 → {r : ℕ} → r ≡ fill_taken.end →
-            AtFill step S s sizes acc.some entry₀ (put table (4 * (rows + (1 - e.kind / 3) - 1)) (row_numbers row)) r (rows + (1 - e.kind / 3)) e.original i
-        fill_next_asked z q = rw q (next_at (fill_asked step S s sizes acc.some at i f.note fill_taken.end fill_taken.ends m reads fill_taken.onward z))
+        pub fill_next_asked : r ≡ None → {p : ℕ} → p ≡ fill_taken.end →
+            AtFill step S s sizes acc.some entry₀ (put table (4 * (rows + (1 - e.kind / 3) - 1)) (row_numbers (row_of e))) p (rows + (1 - e.kind / 3)) e.original i
+        fill_next_asked z q = rw q (next_at (fill_asked step S s sizes acc.some at i f.note fill_taken.end fill_taken.ends r reads fill_taken.onward z))
 
--- where an element ends whose data end there
-pub element_ended : (kind : ℕ) (cs : List Column) (s : Bytes) (at : ℕ) {start r : ℕ} → (kind ≡ 4 → ⊥) → start ≡ start_for kind at → EndIs (eqb kind 3) cs s start r →
-    (e : ℕ) → end_for kind cs s at ≡ ok e → r ≡ e
-element_ended kind cs s at n z ends e q = ends e (rw z (rw (ne_eqb _ _ n) at q))
+-- an end, or 0
+abbrev pub end_or : Result ℕ Error → ℕ
+end_or (Ok e) = e
+end_or (Err x) = 0
+
+-- where an element ends whose data end there, by the shapes or by the columns
+module _ (kind : ℕ) (cs : List Column) (s : Bytes) (at : ℕ) {start : ℕ} {update : Bool} (n : kind ≡ 4 → ⊥) (z : start ≡ start_for kind at) (u : update ≡ eqb kind 3) where
+  data_at_end : {e : ℕ} → end_for kind cs s at ≡ ok e → data_end update cs s start ≡ ok e
+  data_at_end q = rw (z, u) (rw (ne_eqb _ _ n) at q)
+
+  pub element_quick : {r : ℕ} → data_end update cs s start ≡ ok r → (e : ℕ) → end_for kind cs s at ≡ ok e → r ≡ e
+  element_quick ends e q = ok_ok (sym ends ∙ data_at_end q)
+
+  pub element_walked : (r : Result ℕ Error) → told_answer r ≡ data_end update cs s start → (e : ℕ) → end_for kind cs s at ≡ ok e → end_or r ≡ e
+  element_walked (Ok p) ends e q = ok_ok (ends ∙ data_at_end q)
+  element_walked (Err x) ends e q = absurd (bad_ok (ends ∙ data_at_end q))
 
 -- a table with no rows of a run laid into it
 pub no_run : (first start step n : ℕ) (table : List ℕ) → n ≡ 0 → laid_run first start step n table ≡ table
@@ -459,3 +478,7 @@ pub asked_end : {slots shapes : List ℕ} {n step : ℕ} {s : Bytes} → Ready s
 asked_end {slots} {shapes} {n} {step} {s} ready number kind id at {r} {e} z ends q =
     let l : number < n = asked_low ready number kind id z in
     ends (ready.shaped number l) e (ap (λ (cs : List Column). end_for kind cs s at) (sym (columns_at_lem slots n number l) ∙ ap (columns_at (schemas_in 0 n slots)) z) ∙ q)
+
+-- there is a top schema
+pub schemas_top : {slots shapes : List ℕ} {n step : ℕ} {s : Bytes} → Ready slots shapes n s step → 1 ≤ length (schemas_in 0 n slots)
+schemas_top {slots} {shapes} {n} r = omega (arith, r.sound.top, schemas_in_length 0 n slots)

@@ -21,6 +21,11 @@ use Rattle.tree.proofs.TableSays.{schemas_in_length}
 use Rattle.tree.proofs.Children.{child_found}
 use Rattle.grammar.specs.Grammar.{Before, other}
 use Rattle.grammar.specs.Reader.{Token, child_token, change_token, delete_token, done_token, unknown_token, token_of, known_child, follows, id_at}
+use Rattle.std.specs.Prelude.{IfSome}
+use Rattle.std.specs.Prelude as rust
+use Rattle.schema.specs.Children.{told_child}
+use Rattle.section.specs.declared.heads.RowKind.TheVariants as kind
+use Rattle.section.specs.Said.{SaidIn}
 use Rattle.section.specs.Heads.{done_head, delete_head, data_head, head_by, head_at, before_in, paired_id}
 use Rattle.shapes.specs.Shapes.{Sound}
 
@@ -232,6 +237,10 @@ child_low ss id top = go (child_number ss id) refl
     go none e = omega (arith, top)
     go (some k) e = (child_found ss id k e).1
 
+pub found_low : (slots : List ℕ) (n id : ℕ) (r : rust.Option ℕ) → 1 ≤ n → told_child r ≡ child_number (schemas_in 0 n slots) id → IfSome r (λ k. k < n)
+found_low slots n id (rust.Some k) top e = let (a, b, _) = child_found (schemas_in 0 n slots) id k (sym e) in omega (arith, b, schemas_in_length 0 n slots)
+found_low slots n id rust.None top e = tt
+
 pub number_in : (slots : List ℕ) (n id : ℕ) {k : ℕ} → 1 ≤ n → k ≡ or0 (child_number (schemas_in 0 n slots) id) → k < n
 number_in slots n id top e =
     let m : length (schemas_in 0 n slots) ≡ n = schemas_in_length 0 n slots in
@@ -242,18 +251,34 @@ module _ (slots : List ℕ) (n : ℕ) (s : Bytes) (at : ℕ) (h : at + 5 ≤ len
   five : whole s (at + 1) 4 ≡ ok (at + 5)
   five = let z : at + 1 + 4 ≡ at + 5 = omega arith in whole_fits s (at + 1) 4 (omega arith) ∙ ap (λ (x : ℕ). ok x) z
 
-  pub said_child : (b : Before) (id k : ℕ) → get_or s at 0 ≡ 0x87 → id ≡ id_at s at → k ≡ or0 (child_number (schemas_in 0 n slots) id) → (k ≡ 0 → ⊥) →
-      head_at (schemas_in 0 n slots) s b at ≡ ok (data_head 2 k (id_at s at) (at + 5))
-  said_child b id k t e q z =
-      head_child (schemas_in 0 n slots) s b at (omega arith) t
-      ∙ child_known (schemas_in 0 n slots) s other at five (ap (child_number (schemas_in 0 n slots)) (sym e) ∙ number_some (schemas_in 0 n slots) id q z)
+  pub said_parent_in : (b : Before) → 1 ≤ n → get_or s at 0 ≡ 0x07 → SaidIn slots n s b at (record { kind = kind.Parent; number = 0; start = at + 1 })
+  said_parent_in b one t = record { number = omega arith; says = λ sound. record { id = 0; head = head_parent (schemas_in 0 n slots) s b at (omega arith) t } }
 
-  pub said_change : (child id : ℕ) → Sound slots n → child < n → get_or s at 0 ≡ 0x8A → id ≡ id_at s at → 0 < child → id_in (get_or slots (schema_slot child) 0) ≡ id →
-      head_at (schemas_in 0 n slots) s (before_in slots child) at ≡ ok (data_head 3 child (id_at s at) (at + 5))
-  said_change child id sound l t e p i =
-      let f : follows (before_in slots child) (id_at s at) ≡ true = follows_child slots child (id_at s at) p ∙ eq-eqb _ _ (i ∙ e) in
-      head_change (schemas_in 0 n slots) s (before_in slots child) at (omega arith) t
-      ∙ change_followed slots n child s at sound l (paired_found s (before_in slots child) at five f)
+  pub said_child_in : (b : Before) (id k : ℕ) → id ≡ id_at s at → k < n → (Sound slots n → some k ≡ child_number (schemas_in 0 n slots) id) → get_or s at 0 ≡ 0x87 →
+      SaidIn slots n s b at (record { kind = kind.Child; number = k; start = at + 5 })
+  said_child_in b id k e l q t =
+      record {
+        number = l;
+        says = λ sound. record {
+          id = id_at s at;
+          head =
+              head_child (schemas_in 0 n slots) s b at (omega arith) t
+              ∙ child_known (schemas_in 0 n slots) s other at five (ap (child_number (schemas_in 0 n slots)) (sym e) ∙ sym (q sound));
+        };
+      }
+
+  pub said_change_in : (child id : ℕ) → id ≡ id_at s at → child < n → follows (before_in slots child) id ≡ true → get_or s at 0 ≡ 0x8A →
+      SaidIn slots n s (before_in slots child) at (record { kind = kind.Change; number = child; start = at + 5 })
+  said_change_in child id e l f t =
+      record {
+        number = l;
+        says = λ sound. record {
+          id = id_at s at;
+          head =
+              head_change (schemas_in 0 n slots) s (before_in slots child) at (omega arith) t
+              ∙ change_followed slots n child s at sound l (paired_found s (before_in slots child) at five (ap (follows (before_in slots child)) (sym e) ∙ f));
+        };
+      }
 
 -- The id behind a token, or 0.
 pub id_or_zero : (s : Bytes) (at : ℕ) {r : ℕ} → AreBytes s → r ≡ pick (leb (at + 1 + 4) (length s)) (id_at s at) 0 → (r < 4294967296) × (at + 5 ≤ length s → r ≡ id_at s at)

@@ -6,7 +6,10 @@ pub mod Scan
 pub mod Noting
 pub mod RunLaws
 pub mod Scanning
+pub mod ElementLaws
+pub mod EndLaws
+pub mod Turns
 pub mod Filling
 pub mod Listing
-pub mod Turns
+pub mod Opening
 pub mod Passing

@@ -1,5 +1,6 @@
 -- The rows of a section, counted or in the caller's table: what the passes over it come to, and the checks in front of them.
 -- Assumes nothing.
+use Rattle.std.specs.Prelude.{Result, Ok, Err}
 use Prim.Native.Nat.{ℕ, ◌/◌, ◌<◌, ◌≤◌}
 use mathlib.Core.Path.{◌≡◌, refl, sym, ap, ◌∙◌}
 use mathlib.Core.List.{List}
@@ -11,15 +12,13 @@ use Rattle.wire.specs.declared.error.Input.{Input}
 use Rattle.wire.specs.declared.error.Input.TheVariants as input
 use Rattle.wire.specs.declared.error.ErrorKind.TheVariants as error
 use Rattle.wire.specs.Errors.{code_of}
-use Rattle.wire.specs.Read.{Bytes, Read, ok, bad, check, about, limit, refused}
+use Rattle.wire.specs.Read.{Bytes, Read, ok, bad, check, about, limit, refused, told, ◌>>=◌}
 use Rattle.wire.proofs.Laws.{sized_over, sized_within, length_put}
 use Rattle.wire.proofs.Pieces.{bad_ok}
 use Rattle.tree.specs.Schemas.{Schema, read_schemas}
-use Rattle.section.specs.declared.read.RowsRead.{RowsRead}
-use Rattle.section.specs.declared.read.RowsRead.TheVariants as read
 use Rattle.grammar.specs.Grammar.{Row}
 use Rattle.grammar.specs.Reader.{section}
-use Rattle.section.specs.Table.{table_numbers, rows_checked, rows_listed, rows_fitting, table_after, row_count, told_rows, Listed}
+use Rattle.section.specs.Table.{table_numbers, rows_checked, rows_listed, rows_fitting, fitting, table_after, row_count, Listed}
 use Rattle.section.specs.Scan.{laid_from}
 use Rattle.section.proofs.Laid.{laid_all}
 
@@ -57,28 +56,29 @@ abbrev pub named : Error → Input → Error
 named e name = record { kind = e.kind; offset = e.offset; input = name }
 
 -- an error leaves the table
-pub listed_error : (r : Read (List Row)) (table : List ℕ) (e : Error) → r ≡ refused e → Listed r table table (read.Refused e)
+pub listed_error : (r : Read (List Row)) (table : List ℕ) (e : Error) → r ≡ refused e → Listed r table table (Err e)
 unfolding table_after
 listed_error r table e q = record { answers = rw q refl; leaves = rw q refl }
 
 module _ (S : List Schema) (s : Bytes) (table : List ℕ) where
-  pub fitting_refused : (e : Error) → section S s ≡ refused e → Listed (rows_fitting S s (length table)) table table (read.Refused (named e input.Section))
+  pub fitting_refused : (e : Error) → refused e ≡ about input.Section (row_count (section S s)) → Listed (rows_fitting S s (length table)) table table (Err e)
   unfolding about
-  fitting_refused e q = listed_error _ table (named e input.Section) by
+  fitting_refused e q = by (section S s) q
     where
-      by : rows_fitting S s (length table) ≡ refused (named e input.Section)
-      by = rw q refl
+      by : (r : Read (List Row)) → refused e ≡ about input.Section (row_count r) → Listed (about input.Section r >>= fitting (length table)) table table (Err e)
+      by (ok rs) z = absurd (bad_ok z)
+      by (bad c o i) z = listed_error (bad c o input.Section) table e (error_told (bad c o input.Section) e z)
 
   module _ (rs : List Row) (q : section S s ≡ ok rs) where
     pub fitting_full : (e : Error) → e ≡ record { kind = error.Capacity; offset = length rs; input = input.Table } → length table / 4 < length rs →
-        Listed (rows_fitting S s (length table)) table table (read.Refused e)
+        Listed (rows_fitting S s (length table)) table table (Err e)
     unfolding about check
     fitting_full e z h = rw z (listed_error _ table _ by)
       where
         by : rows_fitting S s (length table) ≡ bad 16 (length rs) input.Table
         by = rw (q, lt-leb (length rs) (length table / 4) h) refl
 
-    pub fitting_rows : (exit : List ℕ) (r : RowsRead) → length rs ≤ length table / 4 → told_rows r ≡ row_count (section S s) → exit ≡ laid_from 0 rs table →
+    pub fitting_rows : (exit : List ℕ) (r : Result ℕ Error) → length rs ≤ length table / 4 → told r ≡ row_count (section S s) → exit ≡ laid_from 0 rs table →
         Listed (rows_fitting S s (length table)) table exit r
     unfolding table_after about check
     fitting_rows exit r h c l =
@@ -92,8 +92,8 @@ module _ (S : List Schema) (s : Bytes) (table : List ℕ) where
 
     -- so many rows
     pub fitting_count : (exit : List ℕ) (n : ℕ) → n ≡ length rs → length rs ≤ length table / 4 → exit ≡ laid_from 0 rs table →
-        Listed (rows_fitting S s (length table)) table exit (read.Rows n)
-    fitting_count exit n z h l = fitting_rows exit (read.Rows n) h (ap (λ (m : ℕ). ok m) z ∙ ap row_count (sym q)) l
+        Listed (rows_fitting S s (length table)) table exit (Ok n)
+    fitting_count exit n z h l = fitting_rows exit (Ok n) h (ap (λ (m : ℕ). ok m) z ∙ ap row_count (sym q)) l
 
 -- What comes before the rows: the sizes, and the schema file.
 module _ (file s : Bytes) where
@@ -125,16 +125,14 @@ module _ (file s : Bytes) where
   unfolding rows_listed
   listed_fitting numbers S q = rw q refl
 
--- The rows of a section, counted.
-module _ (r : Read (List Row)) where
-  pub count_named : (n : ℕ) → ok n ≡ row_count r → ok n ≡ row_count (about input.Section r)
-  unfolding about
-  count_named n q = by r q
-    where
-      by : (x : Read (List Row)) → ok n ≡ row_count x → ok n ≡ row_count (about input.Section x)
-      by (ok rs) z = z
-      by (bad c o i) z = absurd (bad_ok (sym z))
+-- an error about a section is that of its rows, counted
+pub about_count : (name : Input) (r : Read (List Row)) → about name (row_count r) ≡ row_count (about name r)
+unfolding about
+about_count name (ok rs) = refl
+about_count name (bad c o i) = refl
 
-  pub error_named : (e : Error) → refused e ≡ row_count r → refused (named e input.Section) ≡ row_count (about input.Section r)
-  unfolding about
-  error_named e q = rw (error_told r e q) refl
+-- so many rows are told of rows, whatever an error is about
+pub rows_about : (name : Input) (r : Read (List Row)) (n : ℕ) → ok n ≡ about name (row_count r) → (rs : List Row) × (r ≡ ok rs) × (n ≡ length rs)
+unfolding about
+rows_about name (ok rs) n e = (rs, refl, (cc))
+rows_about name (bad c o i) n e = absurd (bad_ok (sym e))

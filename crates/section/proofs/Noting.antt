@@ -1,5 +1,6 @@
 -- Sizes that are noted: how each element's goes behind the others.
 -- Assumes nothing.
+use Rattle.std.specs.Prelude.{Option, Some, None}
 use Prim.Native.Nat.{ℕ, zero, suc, ◌+◌, ◌*◌, ◌-◌, ◌/◌, ◌%◌, ◌<◌, ◌≤◌}
 use mathlib.Core.Path.{◌≡◌, refl, sym, ap, ◌∙◌}
 use mathlib.Core.Logic.{◌⊎◌, inl, inr}
@@ -236,29 +237,38 @@ stepped_by (suc k) t n = refl
 
 -- What is read at a note.
 module _ (sizes : List ℕ) (i : ℕ) where
-  pub read_stepped : (r : Size) → r.bytes ≡ 0 → NotedIs sizes i true r
-  read_stepped r e = record { noted = λ n t x. let w : ◌≡◌ {A = ℕ} 0 1 = cc in absurd (omega arith); none = λ z. e; skipped = λ t. e }
+  pub read_stepped : NotedIs sizes i true None
+  read_stepped = record { noted = λ n l t x. let w : ◌≡◌ {A = ℕ} 0 1 = cc in absurd (omega arith); none = λ z. refl; skipped = λ t. refl }
 
-  pub read_none : {b : Bool} (r : Size) → r.bytes ≡ 0 → length sizes < i + 3 → NotedIs sizes i b r
-  read_none r e l = record { noted = λ n t x. absurd (by x); none = λ z. e; skipped = λ t. e }
+  pub read_none : {b : Bool} → length sizes < i + 3 → NotedIs sizes i b None
+  read_none l = record { noted = λ n o t x. absurd (by x); none = λ z. refl; skipped = λ t. refl }
     where
       by : {n : ℕ} → NotedAs sizes i n → ⊥
       by (in_one x y z) = omega (arith, l, z)
       by (in_three x y v z) = omega (arith, l, z)
 
-  pub read_one : (r : Size) → get_or sizes i 0 < 255 → r.bytes ≡ get_or sizes i 0 → r.next ≡ i + 1 → NotedIs sizes i false r
-  read_one r h p q = record { noted = λ n t x. by x; none = λ z. p ∙ z; skipped = λ t. let w : ◌≡◌ {A = ℕ} 0 1 = cc in absurd (omega arith) }
+  pub read_zero : {b : Bool} → get_or sizes i 0 ≡ 0 → NotedIs sizes i b None
+  read_zero e = record { noted = λ n o t x. absurd (by o x); none = λ z. refl; skipped = λ t. refl }
     where
-      by : {n : ℕ} → NotedAs sizes i n → (r.bytes ≡ n) × (r.next ≡ i + note_bytes n)
-      by {n} (in_one x y l) = (p ∙ y, rw (bytes_one n x) q)
+      by : {n : ℕ} → 1 ≤ n → NotedAs sizes i n → ⊥
+      by o (in_one x y z) = omega (arith, e, y, o)
+      by o (in_three x y v z) = omega (arith, e, y)
+
+  pub read_one : {b : Bool} → b ≡ false → get_or sizes i 0 < 255 → (get_or sizes i 0 ≡ 0 → ⊥) → NotedIs sizes i b (Some (record { bytes = get_or sizes i 0; next = i + 1 }))
+  read_one e h p = rw e (record { noted = λ n o t x. by x; none = λ z. absurd (p z); skipped = λ t. let w : ◌≡◌ {A = ℕ} 0 1 = cc in absurd (omega arith) })
+    where
+      by : {n : ℕ} → NotedAs sizes i n → ◌≡◌ {A = Option Size} (Some (record { bytes = get_or sizes i 0; next = i + 1 })) (Some (record { bytes = n; next = i + note_bytes n }))
+      by {n} (in_one x y l) = rw (y, bytes_one n x) refl
       by (in_three x y v l) = absurd (omega (arith, h, y))
 
-  pub read_three : (r : Size) → 255 ≤ get_or sizes i 0 → r.bytes ≡ 256 * get_or sizes (i + 1) 0 + get_or sizes (i + 2) 0 → r.next ≡ i + 3 → NotedIs sizes i false r
-  read_three r h p q = record { noted = λ n t x. by x; none = λ z. absurd (omega (arith, h, z)); skipped = λ t. let w : ◌≡◌ {A = ℕ} 0 1 = cc in absurd (omega arith) }
+  pub read_three : {b : Bool} → b ≡ false → 255 ≤ get_or sizes i 0 →
+      NotedIs sizes i b (Some (record { bytes = 256 * get_or sizes (i + 1) 0 + get_or sizes (i + 2) 0; next = i + 3 }))
+  read_three e h = rw e (record { noted = λ n o t x. by x; none = λ z. absurd (omega (arith, h, z)); skipped = λ t. let w : ◌≡◌ {A = ℕ} 0 1 = cc in absurd (omega arith) })
     where
-      by : {n : ℕ} → NotedAs sizes i n → (r.bytes ≡ n) × (r.next ≡ i + note_bytes n)
+      by : {n : ℕ} → NotedAs sizes i n →
+          ◌≡◌ {A = Option Size} (Some (record { bytes = 256 * get_or sizes (i + 1) 0 + get_or sizes (i + 2) 0; next = i + 3 })) (Some (record { bytes = n; next = i + note_bytes n }))
       by (in_one x y l) = absurd (omega (arith, h, x, y))
-      by {n} (in_three x y v l) = (p ∙ v, rw (bytes_three n x) q)
+      by {n} (in_three x y v l) = rw (v, bytes_three n x) refl
 
 -- the room that zeros have, without counting them
 pub zeros : (n : ℕ) → length (replicate {A = ℕ} n 0) ≡ n

@@ -1,5 +1,6 @@
 -- The pass as code makes it: what its variables hold before an element, and how each element keeps it.
 -- Assumes nothing.
+use Rattle.std.specs.Prelude.{Ok, Err}
 use Prim.Native.Nat.{ℕ, zero, suc, ◌+◌, ◌*◌, ◌-◌, ◌<◌, ◌≤◌}
 use mathlib.Core.Path.{◌≡◌, refl, sym, ap, ◌∙◌}
 use mathlib.Core.List.{List, [], ◌++◌, map}
@@ -8,7 +9,7 @@ use mathlib.Core.Option.{some}
 use native.Mathlib.Omega.{arith}
 use lib.ListN.{length, get_or}
 use lib.Dec.{eqb}
-use borrow.Author.Tests.{ne_eqb}
+use borrow.Author.Tests.{eq-eqb, ne_eqb}
 use Rattle.wire.specs.declared.error.Error.{Error}
 use Rattle.wire.specs.declared.error.Input.{Input}
 use Rattle.wire.specs.Read.{Bytes, AreBytes, Read, ok, bad, refused}
@@ -22,19 +23,19 @@ use Rattle.tree.specs.Table.{schema_slot, id_in, schema_in, schemas_in}
 use Rattle.tree.proofs.TableSays.{schemas_in_length, schemas_in_at}
 use Rattle.tree.proofs.Children.{child_found}
 use Rattle.grammar.specs.Grammar.{Before, columns_at, Row, entry}
-use Rattle.grammar.specs.Reader.{delete_token, section}
+use Rattle.grammar.specs.Reader.{section}
 use Rattle.grammar.specs.Pending.{Pending, child_row_lem, before_of, flush}
 use Rattle.grammar.proofs.Pending.{rows_are_section}
-use Rattle.section.specs.declared.read.RowsRead.TheVariants as read
 use Rattle.section.specs.Heads.{HeadAt, done_head, delete_head, data_head, head_at, before_in, pending_in}
+use Rattle.section.specs.Elements.{ElementAt, data_element, delete_element, ElementRefused, by_head, by_data}
 use Rattle.section.specs.Table.{row_numbers}
 use Rattle.section.specs.Runs.{Run}
 use Rattle.section.specs.Scan.{Ready, Scanned}
 use Rattle.shapes.specs.Shapes.{slot_columns}
 use Rattle.section.specs.Sizes.{in_step, NotedAt, Blank}
 use Rattle.walk.specs.Data.{data_end}
-use Rattle.section.proofs.RowsByHead.{pending_after, before_pending, HeadTold, told_delete, told_parent, told_child, told_change, byte_of}
-use Rattle.section.proofs.Scan.{all_rows, AtElement, Begun, at_start, told, head_refused, head_done, deleted, Ahead, head_ahead, data_refused, data_inside, row_ended, change_ended}
+use Rattle.section.proofs.RowsByHead.{pending_after, before_pending, HeadTold, told_parent, told_child, told_change}
+use Rattle.section.proofs.Scan.{head_refused, data_refused, all_rows, AtElement, Begun, at_start, told, head_done, deleted, Ahead, head_ahead, data_inside, row_ended, change_ended}
 use Rattle.section.proofs.Noting.{AtNote, noted_start, noted_next, note_long, note_within, data_ends, delete_ends}
 use Rattle.section.proofs.RunLaws.{run_element, run_noted, laid_run_nil}
 
@@ -123,108 +124,109 @@ module _ (slots : List ℕ) (n : ℕ) (s : Bytes) (step : ℕ) (sizes₀ sizes :
         room = a.room;
       }
 
-  -- an 8C
-  pub record ScanDeleted : Type 0 where
-    pub within : at + 5 ≤ length s
-    pub next : (exit : List ℕ) (used' : ℕ) → NotedAt sizes exit used 5 false used' → AtScan slots n s step sizes₀ exit (at + 5) rows 0 used'
+  -- what an element is to the pass: it lies in the section, and behind it there is a row more, or the row before it is closed
+  pub record ScanNext (kind k e : ℕ) : Type 0 where
+    pub there : at < length s
+    pub onward : at < e
+    pub within : e ≤ length s
+    pub number : kind < 3 → k < n
+    pub added : kind < 3 → (exit : List ℕ) (used' : ℕ) → NotedAt sizes exit used (e - at) (in_step step (get_or s at 0)) used' → AtScan slots n s step sizes₀ exit e (rows + 1) k used'
+    pub closed : 3 ≤ kind → (exit : List ℕ) (used' : ℕ) → NotedAt sizes exit used (e - at) (in_step step (get_or s at 0)) used' → AtScan slots n s step sizes₀ exit e rows 0 used'
 
-  pub scan_deleted : (id : ℕ) → AreBytes s → head_at S s (before_in slots child) at ≡ ok (delete_head id) → ScanDeleted
-  scan_deleted id o e =
-      let d = deleted S s [] [] at rows P a.element id a.origin o (begun_in slots child a.origin) (here e) in
-      let t = told S s [] [] at rows P a.element (delete_head id) (here e) in
-      record {
+  -- an 8C
+  deleted_next : (k id e : ℕ) → AreBytes s → head_at S s (before_in slots child) at ≡ ok (delete_head id) → e ≡ at + 5 → ScanNext 4 k e
+  deleted_next k id e o h z =
+      let d = deleted S s [] [] at rows P a.element id a.origin o (begun_in slots child a.origin) (here h) in
+      let t = told S s [] [] at rows P a.element (delete_head id) (here h) in
+      rw z (record {
+        there = omega (arith, d.within);
+        onward = omega arith;
         within = d.within;
-        next = λ exit used' m. record {
+        number = λ l. absurd (omega (arith, l));
+        added = λ l exit used' m. absurd (omega (arith, l));
+        closed = λ l exit used' m. record {
           origin = 0;
           element = rw (put_nil (4 * (rows - 1)) (entry 4 id a.origin 0)) at d.next;
           nested = omega (arith, a.nested);
-          noted =
-              let z : at + 5 - at ≡ 5 = omega arith in
-              noted_next step S s at (at + 5) (delete_ends S s (before_of P) at t) (by t) (rw z m) a.noted;
+          noted = noted_next step S s at (at + 5) (delete_ends S s (before_of P) at t) refl m a.noted;
           long = note_long m ∙ a.long;
           room = note_within m a.room;
         };
+      })
+
+  -- row data
+  module _ {kind k id start : ℕ} (h : Ahead S s [] [] at rows P a.element kind k id start) (e : ℕ) (q : data_end (eqb kind 3) (columns_at S k) s start ≡ ok e)
+      (exit : List ℕ) (used' : ℕ) (m : NotedAt sizes exit used (e - at) (in_step step (get_or s at 0)) used') where
+    here_told : HeadTold S s (before_of P) at (data_head kind k id start)
+    here_told = told S s [] [] at rows P a.element (data_head kind k id start) h.head
+
+    more : AtNote step S s exit e used'
+    more = noted_next step S s at e (data_ends S s (before_of P) at here_told q) refl m a.noted
+
+    -- what is pending behind the row
+    pending_kept : eqb kind 3 ≡ false → pending_after kind id start ≡ pending_in slots k start
+    pending_kept t = by here_told t
+      where
+        by : {kind k id start : ℕ} → HeadTold S s (before_of P) at (data_head kind k id start) → eqb kind 3 ≡ false → pending_after kind id start ≡ pending_in slots k start
+        by (told_parent i l) t = refl
+        by (told_child {k = k} {id = id} {start = start} i c j z l) t =
+            let (one, u, v) = child_slot slots n id k c in
+            child_pending slots k id start one v
+        by (told_change i b c j z l) t = let v : ◌≡◌ {A = ℕ} 0 1 = cc in absurd (omega arith)
+
+    row_next : k < n → eqb kind 3 ≡ false → AtScan slots n s step sizes₀ exit e (rows + 1) k used'
+    row_next l t =
+        record {
+          origin = start;
+          element = rw (pending_kept t, put_nil (4 * rows) (entry kind id start 0)) at (row_ended S s [] [] at rows P a.element e h t q);
+          nested = l;
+          noted = more;
+          long = note_long m ∙ a.long;
+          room = note_within m a.room;
+        }
+
+    change_next : eqb kind 3 ≡ true → AtScan slots n s step sizes₀ exit e rows 0 used'
+    change_next t =
+        record {
+          origin = 0;
+          element =
+              rw (put_nil (4 * (rows - 1)) (entry 3 id a.origin start)) at
+              (change_ended S s [] [] at rows P a.element e a.origin (begun_in slots child a.origin) h t q).1;
+          nested = omega (arith, a.nested);
+          noted = more;
+          long = note_long m ∙ a.long;
+          room = note_within m a.room;
+        }
+
+  pub scan_next : {kind k e : ℕ} → 1 ≤ n → AreBytes s → ElementAt S s (before_in slots child) at kind k e → ScanNext kind k e
+  scan_next one o (delete_element {number = k} {id = id} {end = e} h z) = deleted_next k id e o h z
+  scan_next one o (data_element {kind = kind} {number = k} {id = id} {start = start} {end = e} h q) =
+      let g = head_ahead S s [] [] at rows P a.element kind k id start (omega (arith, one, schemas_in_length 0 n slots)) o (here h) in
+      let (x, y) = data_inside (eqb kind 3) (columns_at S k) s start e q in
+      let l : k < n = omega (arith, g.number, schemas_in_length 0 n slots) in
+      record {
+        there = omega (arith, g.behind, g.within);
+        onward = omega (arith, g.behind, x);
+        within = y;
+        number = λ _. l;
+        added = λ t exit used' m. row_next g e q exit used' m l (ne_eqb kind 3 (λ z. omega (arith, z, t)));
+        closed = λ t exit used' m. let z : kind ≡ 3 = omega (arith, t, g.low) in change_next g e q exit used' m (eq-eqb kind 3 z);
       }
-    where
-      by : HeadTold S s (before_of P) at (delete_head id) → in_step step (get_or s at 0) ≡ false
-      by (told_delete i b j l) = rw (byte_of _ delete_token i) (not_parent step)
-        where
-          not_parent : (k : ℕ) → in_step k 0x8C ≡ false
-          not_parent zero = refl
-          not_parent (suc k) = refl
 
-  -- the head of row data
-  pub scan_ahead : (kind k id start : ℕ) → 1 ≤ n → AreBytes s → head_at S s (before_in slots child) at ≡ ok (data_head kind k id start) → Ahead S s [] [] at rows P a.element kind k id start
-  scan_ahead kind k id start one o h = head_ahead S s [] [] at rows P a.element kind k id start (omega (arith, one, schemas_in_length 0 n slots)) o (here h)
-
-  module _ {kind k id start : ℕ} (h : Ahead S s [] [] at rows P a.element kind k id start) where
-    pub ahead_number : k < n
-    ahead_number = omega (arith, h.number, schemas_in_length 0 n slots)
-
-    pub ahead_inside : at < length s
-    ahead_inside = omega (arith, h.behind, h.within)
-
-    -- what ends by the columns in the slots
-    by_slots : {r : Read ℕ} → data_end (eqb kind 3) (slot_columns slots k) s start ≡ r → data_end (eqb kind 3) (columns_at S k) s start ≡ r
-    by_slots q = ap (λ (cs : List Column). data_end (eqb kind 3) cs s start) (columns_at_lem slots n k ahead_number) ∙ q
-
-    pub scan_data_refused : {c o : ℕ} {i : Input} → data_end (eqb kind 3) (slot_columns slots k) s start ≡ bad c o i → all_rows S s ≡ bad c o i
-    scan_data_refused q = data_refused S s [] [] at rows P a.element h (by_slots q)
-
-    module _ (e : ℕ) (q : data_end (eqb kind 3) (slot_columns slots k) s start ≡ ok e) where
-      pub data_end_lem : (at < e) × (e ≤ length s)
-      data_end_lem = let (x, y) = data_inside (eqb kind 3) (slot_columns slots k) s start e q in (omega (arith, h.behind, x), y)
-
-      module _ (exit : List ℕ) (used' : ℕ) (m : NotedAt sizes exit used (e - at) (in_step step (get_or s at 0)) used') where
-        here_told : HeadTold S s (before_of P) at (data_head kind k id start)
-        here_told = told S s [] [] at rows P a.element (data_head kind k id start) h.head
-
-        more : AtNote step S s exit e used'
-        more = noted_next step S s at e (data_ends S s (before_of P) at here_told (by_slots q)) refl m a.noted
-
-        -- what is pending behind the row
-        pending_kept : eqb kind 3 ≡ false → pending_after kind id start ≡ pending_in slots k start
-        pending_kept t = by here_told t
-          where
-            by : {kind k id start : ℕ} → HeadTold S s (before_of P) at (data_head kind k id start) → eqb kind 3 ≡ false → pending_after kind id start ≡ pending_in slots k start
-            by (told_parent i l) t = refl
-            by (told_child {k = k} {id = id} {start = start} i c j z l) t =
-                let (one, u, v) = child_slot slots n id k c in
-                child_pending slots k id start one v
-            by (told_change i b c j z l) t = let v : ◌≡◌ {A = ℕ} 0 1 = cc in absurd (omega arith)
-
-        pub scan_row_ended : eqb kind 3 ≡ false → AtScan slots n s step sizes₀ exit e (rows + 1) k used'
-        scan_row_ended t =
-            record {
-              origin = start;
-              element = rw (pending_kept t, put_nil (4 * rows) (entry kind id start 0)) at (row_ended S s [] [] at rows P a.element e h t (by_slots q));
-              nested = ahead_number;
-              noted = more;
-              long = note_long m ∙ a.long;
-              room = note_within m a.room;
-            }
-
-        pub scan_change_ended : eqb kind 3 ≡ true → AtScan slots n s step sizes₀ exit e rows 0 used'
-        scan_change_ended t =
-            record {
-              origin = 0;
-              element =
-                  rw (put_nil (4 * (rows - 1)) (entry 3 id a.origin start)) at
-                  (change_ended S s [] [] at rows P a.element e a.origin (begun_in slots child a.origin) h t (by_slots q)).1;
-              nested = omega (arith, a.nested);
-              noted = more;
-              long = note_long m ∙ a.long;
-              room = note_within m a.room;
-            }
+  -- a refusal of the element is one of the section
+  pub element_refused : {e : Error} → 1 ≤ n → AreBytes s → ElementRefused S s (before_in slots child) at e → all_rows S s ≡ refused e
+  element_refused one o (by_head h) = scan_refused h
+  element_refused one o (by_data {kind = kind} {number = k} {id = id} {start = start} h q) =
+      data_refused S s [] [] at rows P a.element (head_ahead S s [] [] at rows P a.element kind k id start (omega (arith, one, schemas_in_length 0 n slots)) o (here h)) q
 
   -- what the pass answers at the done token
-  pub scanned_rows : head_at S s (before_in slots child) at ≡ ok done_head → Scanned S s step sizes (read.Rows rows)
+  pub scanned_rows : head_at S s (before_in slots child) at ≡ ok done_head → Scanned S s step sizes (Ok rows)
   scanned_rows e =
       let q : section S s ≡ ok (a.element.listed ++ flush P []) = rows_are_section S s ∙ head_done S s [] [] at rows P a.element (here e) in
       record { answers = rw q (ap (λ (x : ℕ). ok x) a.element.count); notes = λ rs r. a.noted.some }
 
 -- what the pass answers at an error
-pub scanned_refused : (S : List Schema) (s : Bytes) (step : ℕ) (sizes : List ℕ) (e : Error) → all_rows S s ≡ refused e → Scanned S s step sizes (read.Refused e)
+pub scanned_refused : (S : List Schema) (s : Bytes) (step : ℕ) (sizes : List ℕ) (e : Error) → all_rows S s ≡ refused e → Scanned S s step sizes (Err e)
 scanned_refused S s step sizes e q =
     let r : section S s ≡ refused e = rows_are_section S s ∙ q in
     record { answers = rw r refl; notes = λ rs p. absurd (bad_ok (sym r ∙ p)) }

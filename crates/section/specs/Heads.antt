@@ -1,9 +1,12 @@
 -- Promise: the head of an element: its token and child id with all checks of them, up to its data.
 -- Assumes nothing.
-use Rattle.std.specs.Prelude.{ℕ, zero, suc, ◌+◌, List, length, get_or, eqb}
+use Rattle.std.specs.Prelude.{ℕ, zero, suc, ◌+◌, List, length, get_or, eqb, Result, Ok, Err}
+use Rattle.wire.specs.declared.error.Error.{Error}
 use Rattle.wire.specs.declared.error.Input.TheVariants as input
 use Rattle.wire.specs.Read.{Bytes, Read, ok, bad, ◌>>=◌, check, whole, refused}
 use Rattle.tree.specs.Schemas.{Schema, child_number}
+use Rattle.section.specs.declared.heads.RowKind.{RowKind}
+use Rattle.section.specs.declared.heads.RowKind.TheVariants as kind
 use Rattle.section.specs.declared.heads.Head.{Head}
 use Rattle.section.specs.declared.heads.Head.TheVariants as head
 use Rattle.grammar.specs.Reader.{Token, parent_token, child_token, change_token, delete_token, done_token, unknown_token, token_of, known_child, follows, id_at}
@@ -64,9 +67,16 @@ paired_id s before at = do
   _ ← check (follows before (id_at s at)) 11 at
   ok (id_at s at)
 
--- what a `Head` says
-abbrev pub told_head : Head → Read HeadAt
-told_head head.Done = ok done_head
-told_head (head.Delete id) = ok (delete_head id)
-told_head (head.Data kind number id start) = ok (data_head kind number id start)
-told_head (head.Refused e) = refused e
+-- the number of a kind in the table of rows
+abbrev pub kind_number : RowKind → ℕ
+kind_number kind.Parent = 1
+kind_number kind.Child = 2
+kind_number kind.Change = 3
+kind_number kind.Delete = 4
+
+-- what the `Result` says
+abbrev pub told_head : Result Head Error → Read HeadAt
+told_head (Ok head.Done) = ok done_head
+told_head (Ok (head.Delete id)) = ok (delete_head id)
+told_head (Ok (head.Data k number id start)) = ok (data_head (kind_number k) number id start)
+told_head (Err e) = refused e

@@ -5,5 +5,6 @@ pub mod Passes
 pub mod Ends
 pub mod Runs
 pub mod Said
+pub mod Elements
 pub mod Sizes
 pub mod Scan

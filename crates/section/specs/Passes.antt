@@ -47,9 +47,3 @@ pub record InBounds (n child size start step : ℕ) : Type 0 where
   pub sized : size ≤ 16777216
   pub inside : start ≤ size
   pub short : step ≤ 65536
-
--- A whole 8C element stands at `at`, behind its 87 element, whose schema has the number `child`.
-pub record DeletedAt (slots : List ℕ) (s : Bytes) (child at : ℕ) : Type 0 where
-  pub id : ℕ
-  pub head : (S : List Schema) → head_at S s (before_in slots child) at ≡ ok (delete_head id)
-  pub inside : at + 5 ≤ length s

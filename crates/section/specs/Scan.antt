@@ -1,18 +1,16 @@
 -- Inner: what opening a section promises, and each pass over it, whatever room the table has.
 -- Assumes nothing.
-use Rattle.std.specs.Prelude.{ℕ, ◌+◌, ◌*◌, ◌≤◌, ◌≡◌, List, [], ◌∷◌, length}
+use Rattle.std.specs.Prelude.{ℕ, ◌+◌, ◌*◌, ◌≤◌, ◌≡◌, List, [], ◌∷◌, length, Result, Ok, Err}
+use Rattle.wire.specs.declared.error.Error.{Error}
 use Rattle.wire.specs.declared.error.Input.TheVariants as input
-use Rattle.wire.specs.Read.{Bytes, ok, about, refused}
+use Rattle.wire.specs.Read.{Bytes, ok, about, refused, told}
 use Rattle.wire.specs.Output.{put}
-use Rattle.section.specs.declared.read.RowsRead.{RowsRead}
 use Rattle.tree.specs.Schemas.{Schema, column_count}
 use Rattle.tree.specs.Table.{schemas_in}
-use Rattle.schema.specs.declared.reader.PlaceRead.{PlaceRead}
-use Rattle.schema.specs.declared.reader.PlaceRead.TheVariants as place
 use Rattle.schema.specs.declared.reader.Place.{Place}
 use Rattle.grammar.specs.Grammar.{Row}
 use Rattle.grammar.specs.Reader.{section}
-use Rattle.section.specs.Table.{row_numbers, row_count, told_rows, rows_checked}
+use Rattle.section.specs.Table.{row_numbers, row_count, rows_checked}
 use Rattle.shapes.specs.Shapes.{Sound}
 use Rattle.shapes.specs.Masks.{Shaped}
 use Rattle.quick.specs.Quick.{RowStep}
@@ -26,9 +24,9 @@ pub record Slotted (file s : Bytes) (slots : List ℕ) (p : Place) : Type 0 wher
   pub sized : length s ≤ 16777216
 
 -- What reading that file comes to.
-abbrev pub Opened : (file s : Bytes) (slots : List ℕ) → PlaceRead → Type 0
-Opened file s slots (place.Read p) = Slotted file s slots p
-Opened file s slots (place.Refused e) = rows_checked file s ≡ refused e
+abbrev pub Opened : (file s : Bytes) (slots : List ℕ) → Result Place Error → Type 0
+Opened file s slots (Ok p) = Slotted file s slots p
+Opened file s slots (Err e) = rows_checked file s ≡ refused e
 
 -- What a pass is given: a table of slots, what was made of it, a section that is not over the limit, and the step from parent to parent, or 0.
 pub record Ready (slots shapes : List ℕ) (n : ℕ) (s : Bytes) (step : ℕ) : Type 0 where
@@ -44,8 +42,8 @@ laid_from i [] table = table
 laid_from i (r ∷ rs) table = laid_from (i + 1) rs (put table (4 * i) (row_numbers r))
 
 -- The pass that checks answers how many rows or the first error, and where it is no error notes sizes.
-pub record Scanned (S : List Schema) (s : Bytes) (step : ℕ) (sizes : List ℕ) (answer : RowsRead) : Type 0 where
-  pub answers : told_rows answer ≡ row_count (section S s)
+pub record Scanned (S : List Schema) (s : Bytes) (step : ℕ) (sizes : List ℕ) (answer : Result ℕ Error) : Type 0 where
+  pub answers : told answer ≡ row_count (section S s)
   pub notes : (rows : List Row) → section S s ≡ ok rows → NotedSome step S s sizes
 
 -- the rows of a section that was accepted are laid into the table

@@ -1,6 +1,6 @@
 -- Inner: the sizes of elements, noted by the pass that checks a section for the one that fills its table.
 -- Assumes nothing.
-use Rattle.std.specs.Prelude.{ℕ, zero, suc, ◌+◌, ◌*◌, ◌-◌, ◌/◌, ◌%◌, ◌<◌, ◌≤◌, ◌≡◌, List, Bool, true, false, length, get_or, ltb, eqb}
+use Rattle.std.specs.Prelude.{ℕ, zero, suc, ◌+◌, ◌*◌, ◌-◌, ◌/◌, ◌%◌, ◌<◌, ◌≤◌, ◌≡◌, List, Bool, true, false, length, get_or, ltb, eqb, Option, Some, None}
 use Rattle.wire.specs.declared.error.Input.TheVariants as input
 use Rattle.wire.specs.Read.{Bytes, Read, ok, bad, ◌>>=◌, pick}
 use Rattle.walk.specs.Rows.{row_end}
@@ -101,11 +101,11 @@ pub record Accepted (S : List Schema) (s : Bytes) (step : ℕ) (sizes : List ℕ
   pub splits : section S s ≡ ok rows
   pub some : NotedSome step S s sizes
 
--- the size that is noted at i, and where the next one is; 0 for none
-pub record NotedIs (sizes : List ℕ) (i : ℕ) (stepped : Bool) (m : Size) : Type 0 where
-  pub noted : (size : ℕ) → stepped ≡ false → NotedAs sizes i size → (m.bytes ≡ size) × (m.next ≡ i + note_bytes size)
-  pub none : get_or sizes i 0 ≡ 0 → m.bytes ≡ 0
-  pub skipped : stepped ≡ true → m.bytes ≡ 0
+-- the size that is noted at i, and where the next one is
+pub record NotedIs (sizes : List ℕ) (i : ℕ) (stepped : Bool) (r : Option Size) : Type 0 where
+  pub noted : (size : ℕ) → 1 ≤ size → stepped ≡ false → NotedAs sizes i size → r ≡ Some (record { bytes = size; next = i + note_bytes size })
+  pub none : get_or sizes i 0 ≡ 0 → r ≡ None
+  pub skipped : stepped ≡ true → r ≡ None
 
 -- the kind of the row that an element makes or closes, by its token: 07, 87, 8A, 8C are 1 to 4
 abbrev pub kind_by : (token : ℕ) → ℕ

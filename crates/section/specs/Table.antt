@@ -1,13 +1,13 @@
 -- Promise: the rows of a section, checked, and in the table that a caller lends (document 01, "Rows"): four numbers a row.
 -- Assumes nothing.
-use Rattle.std.specs.Prelude.{ℕ, ◌/◌, ◌<◌, ◌≡◌, List, [], ◌∷◌, ◌++◌, length, leb}
+use Rattle.std.specs.Prelude.{ℕ, ◌/◌, ◌<◌, ◌≡◌, List, [], ◌∷◌, ◌++◌, length, leb, Result}
+use Rattle.wire.specs.declared.error.Error.{Error}
 use Rattle.wire.specs.declared.error.Input.TheVariants as input
-use Rattle.wire.specs.Read.{Bytes, Read, ok, bad, ◌>>=◌, check, about, sized, refused}
+use Rattle.wire.specs.Read.{Bytes, Read, ok, bad, ◌>>=◌, check, about, sized, told}
 use Rattle.wire.specs.Output.{put}
 use Rattle.tree.specs.Schemas.{Schema, read_schemas}
-use Rattle.section.specs.declared.read.RowsRead.{RowsRead}
-use Rattle.section.specs.declared.read.RowsRead.TheVariants as read
-use Rattle.grammar.specs.Grammar.{Row}
+use Rattle.grammar.specs.Grammar.{Row, entry}
+use Rattle.section.specs.declared.table.Entry.{Entry}
 use Rattle.grammar.specs.Reader.{section}
 
 -- the numbers of a row
@@ -52,14 +52,9 @@ abbrev pub row_count : Read (List Row) → Read ℕ
 row_count (ok rs) = ok (length rs)
 row_count (bad code offset about) = bad code offset about
 
--- what a `RowsRead` says
-abbrev pub told_rows : RowsRead → Read ℕ
-told_rows (read.Rows n) = ok n
-told_rows (read.Refused e) = refused e
-
 -- What the call that lists promises: how many rows or the error, and what the table then holds.
-pub record Listed (rs : Read (List Row)) (entry exit : List ℕ) (answer : RowsRead) : Type 0 where
-  pub answers : told_rows answer ≡ row_count rs
+pub record Listed (rs : Read (List Row)) (entry exit : List ℕ) (answer : Result ℕ Error) : Type 0 where
+  pub answers : told answer ≡ row_count rs
   pub leaves : exit ≡ table_after rs entry
 
 -- Inner.
@@ -67,6 +62,10 @@ pub record Listed (rs : Read (List Row)) (entry exit : List ℕ) (answer : RowsR
 -- the rows of a section under these schemas, in a table
 abbrev pub rows_fitting : List Schema → Bytes → (numbers : ℕ) → Read (List Row)
 rows_fitting schemas s numbers = about input.Section (section schemas s) >>= fitting numbers
+
+-- the row of an entry
+abbrev pub row_of : Entry → Row
+row_of e = entry e.kind e.id e.original e.update
 
 -- a row whose numbers have room in the table
 pub record SmallRow (r : Row) : Type 0 where

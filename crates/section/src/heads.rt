@@ -1,16 +1,17 @@
 // The head of an element: its token and its child id.
-ghost use Rattle.std.specs.Prelude.{◌≡◌, ◌<◌, ◌≤◌, [], length};
-ghost use Rattle.wire.specs.Integers.{told_int};
+ghost use Rattle.std.specs.Prelude.{◌≡◌, ◌<◌, [], length, eqb, ltb};
+ghost use Rattle.wire.specs.Read.{told};
 ghost use Rattle.tree.specs.Table.{schemas_in};
 ghost use Rattle.shapes.specs.Shapes.{Sound};
-ghost use Rattle.section.specs.Heads.{head_at, head_by, before_in, paired_id, told_head};
+ghost use Rattle.section.specs.Heads.{head_at, head_by, before_in, paired_id, kind_number, told_head};
 ghost use Rattle.grammar.specs.Grammar.{other};
 ghost use Rattle.grammar.specs.Reader.{child_token, change_token, delete_token, done_token};
 
-use schema::children::{child_number, id_in};
-use shapes::shapes::SCHEMAS;
-use wire::error::{Error, ErrorKind, Input};
-use wire::integer::{IntRead, u32_at};
+use crate::children::is_child;
+use crate::sheet::Sheet;
+use schema::children::child_number;
+use wire::error::{Error, ErrorKind};
+use wire::integer::u32_at;
 
 // Tokens of the elements, and of the section's end.
 pub const PARENT: u8 = 0x07;
@@ -23,152 +24,132 @@ pub const DELETE: u8 = 0x8C;
 
 pub const DONE: u8 = 0x0F;
 
+// Kinds of rows, by their numbers in the table of rows.
+#[derive(Clone, Copy)]
+pub(crate) enum RowKind {
+    Parent = 1,
+    Child = 2,
+    Change = 3,
+    Delete = 4,
+}
+
+impl RowKind {
+    // Whether an element of the kind has update data.
+    pub(crate) fn is_change(self) -> bool
+        ensures { result ≡ eqb (kind_number self) 3 }
+    {
+        matches!(self, RowKind::Change)
+    }
+
+    // Whether an element of the kind adds a row to the table.
+    pub(crate) fn is_new(self) -> bool
+        ensures { result ≡ ltb (kind_number self) 3 }
+    {
+        matches!(self, RowKind::Parent | RowKind::Child)
+    }
+}
+
 // A head that was read. Of row data: the kind of its row so far, the number of its schema, its child id, where the data start.
 #[derive(Clone, Copy)]
-pub enum Head {
+pub(crate) enum Head {
     Done,
     Delete(usize),
     Data {
-        kind: usize,
+        kind: RowKind,
         number: usize,
         id: usize,
         start: usize,
     },
-    Refused(Error),
 }
 
 // An 87 element's head.
-fn child_head(slots: &[u64; 512], schemas: usize, section: &[u8], at: usize) -> Head
-    requires { Sound slots.now schemas × (at < length section.now) }
-    ensures { told_head result ≡ head_by (schemas_in 0 schemas slots.now) section.now (before_in slots.now 0) at child_token }
+#[tactic(auto, using(crate::proofs::HeadLaws::id_short, crate::proofs::HeadLaws::id_read, crate::proofs::HeadLaws::child_short, crate::proofs::HeadLaws::child_unknown, crate::proofs::HeadLaws::child_known))]
+fn child_head(sheet: &Sheet, at: usize) -> Result<Head, Error>
+    requires { Sound sheet.now.slots.now sheet.now.schemas × (at < length sheet.now.section.now) }
+    ensures { told_head result ≡ head_by (schemas_in 0 sheet.now.schemas sheet.now.slots.now) sheet.now.section.now (before_in sheet.now.slots.now 0) at child_token }
 {
-    match u32_at(section, at + 1) {
-        IntRead::Refused(e) => Head::Refused(e),
-        IntRead::Int(id) => {
-            let number = child_number(slots, schemas, id as u64);
-            if number == 0 {
-                return Head::Refused(Error {
-                    kind: ErrorKind::UnknownId,
-                    offset: at,
-                    input: Input::Single,
-                });
-            }
-            Head::Data {
-                kind: 2,
-                number,
-                id,
-                start: at + 5,
-            }
-        }
+    let id = u32_at(sheet.section, at + 1)?;
+    match child_number(sheet.slots, sheet.schemas, id as u64) {
+        None => Err(Error::at(ErrorKind::UnknownId, at)),
+        Some(number) => Ok(Head::Data {
+            kind: RowKind::Child,
+            number,
+            id,
+            start: at + 5,
+        }),
     }
 }
 
 // The child id behind a token, where it is that of the 87 element directly before, whose schema has the number `child`.
-pub(crate) fn paired_id(slots: &[u64; 512], section: &[u8], at: usize, child: usize) -> IntRead
-    requires { (child < 256) × (at < length section.now) }
-    ensures { told_int result ≡ paired_id section.now (before_in slots.now child) at }
+#[tactic(auto, using(crate::proofs::HeadLaws::id_short, crate::proofs::HeadLaws::id_read, crate::proofs::HeadLaws::paired_short, crate::proofs::HeadLaws::paired_found, crate::proofs::HeadLaws::paired_other))]
+pub(crate) fn paired_id(sheet: &Sheet, at: usize, child: usize) -> Result<usize, Error>
+    requires { (child < sheet.now.schemas) × (at < length sheet.now.section.now) }
+    ensures { told result ≡ paired_id sheet.now.section.now (before_in sheet.now.slots.now child) at }
 {
-    match u32_at(section, at + 1) {
-        IntRead::Refused(e) => IntRead::Refused(e),
-        IntRead::Int(id) => {
-            if 0 < child {
-                if id_in(slots[SCHEMAS + child]) == id as u64 {
-                    return IntRead::Int(id);
-                }
-            }
-            IntRead::Refused(Error {
-                kind: ErrorKind::Unpaired,
-                offset: at,
-                input: Input::Single,
-            })
-        }
+    let id = u32_at(sheet.section, at + 1)?;
+    if is_child(sheet.slots, child, id) {
+        return Ok(id);
     }
+    Err(Error::at(ErrorKind::Unpaired, at))
 }
 
 // An 8A element's head: it changes the row of the 87 element directly before.
-fn change_head(slots: &[u64; 512], schemas: usize, section: &[u8], at: usize, child: usize) -> Head
-    requires { Sound slots.now schemas × (child < schemas) × (at < length section.now) × (length section.now ≤ 16777216) }
-    ensures { told_head result ≡ head_by (schemas_in 0 schemas slots.now) section.now (before_in slots.now child) at change_token }
+#[tactic(auto, using(crate::proofs::HeadLaws::change_refused, crate::proofs::HeadLaws::change_followed))]
+fn change_head(sheet: &Sheet, at: usize, child: usize) -> Result<Head, Error>
+    requires { Sound sheet.now.slots.now sheet.now.schemas × (child < sheet.now.schemas) × (at < length sheet.now.section.now) }
+    ensures { told_head result ≡ head_by (schemas_in 0 sheet.now.schemas sheet.now.slots.now) sheet.now.section.now (before_in sheet.now.slots.now child) at change_token }
 {
-    match paired_id(slots, section, at, child) {
-        IntRead::Refused(e) => Head::Refused(e),
-        IntRead::Int(id) => Head::Data {
-            kind: 3,
-            number: child,
-            id,
-            start: at + 5,
-        },
-    }
+    let id = paired_id(sheet, at, child)?;
+    Ok(Head::Data {
+        kind: RowKind::Change,
+        number: child,
+        id,
+        start: at + 5,
+    })
 }
 
 // An 8C element's head.
-fn delete_head(slots: &[u64; 512], section: &[u8], at: usize, child: usize) -> Head
-    requires { (child < 256) × (at < length section.now) }
-    ensures { told_head result ≡ head_by [] section.now (before_in slots.now child) at delete_token }
+#[tactic(auto, using(crate::proofs::HeadLaws::delete_refused, crate::proofs::HeadLaws::delete_read))]
+fn delete_head(sheet: &Sheet, at: usize, child: usize) -> Result<Head, Error>
+    requires { (child < sheet.now.schemas) × (at < length sheet.now.section.now) }
+    ensures { told_head result ≡ head_by [] sheet.now.section.now (before_in sheet.now.slots.now child) at delete_token }
 {
-    match paired_id(slots, section, at, child) {
-        IntRead::Refused(e) => Head::Refused(e),
-        IntRead::Int(id) => Head::Delete(id),
-    }
+    let id = paired_id(sheet, at, child)?;
+    Ok(Head::Delete(id))
 }
 
 // The done token's head: no byte is behind it.
-fn done_head(section: &[u8], at: usize) -> Head
+#[tactic(auto, using(crate::proofs::HeadLaws::done_end, crate::proofs::HeadLaws::done_trailing))]
+fn done_head(section: &[u8], at: usize) -> Result<Head, Error>
     requires { at < length section.now }
     ensures { told_head result ≡ head_by [] section.now other at done_token }
 {
     if section.len() == at + 1 {
-        return Head::Done;
+        return Ok(Head::Done);
     }
-    Head::Refused(Error {
-        kind: ErrorKind::Trailing,
-        offset: at + 1,
-        input: Input::Single,
-    })
+    Err(Error::at(ErrorKind::Trailing, at + 1))
 }
 
 // The head of the element at `at`, where `child` is the schema number of an 87 element directly before it, else 0.
-pub(crate) fn head_at(
-    slots: &[u64; 512],
-    schemas: usize,
-    section: &[u8],
-    at: usize,
-    child: usize,
-) -> Head
-    requires { Sound slots.now schemas × (child < schemas) × (length section.now ≤ 16777216) }
-    ensures { told_head result ≡ head_at (schemas_in 0 schemas slots.now) section.now (before_in slots.now child) at }
+#[tactic(auto, using(crate::proofs::HeadLaws::head_short, crate::proofs::HeadLaws::head_parent, crate::proofs::HeadLaws::head_child, crate::proofs::HeadLaws::head_change, crate::proofs::HeadLaws::head_delete, crate::proofs::HeadLaws::head_done, crate::proofs::HeadLaws::head_unknown))]
+pub(crate) fn head_at(sheet: &Sheet, at: usize, child: usize) -> Result<Head, Error>
+    requires { Sound sheet.now.slots.now sheet.now.schemas × (child < sheet.now.schemas) }
+    ensures { told_head result ≡ head_at (schemas_in 0 sheet.now.schemas sheet.now.slots.now) sheet.now.section.now (before_in sheet.now.slots.now child) at }
 {
-    if section.len() <= at {
-        return Head::Refused(Error {
-            kind: ErrorKind::Short,
-            offset: section.len(),
-            input: Input::Single,
-        });
+    if sheet.section.len() <= at {
+        return Err(Error::short(sheet.section.len()));
     }
-    let token = section[at];
-    if token == PARENT {
-        return Head::Data {
-            kind: 1,
+    match sheet.section[at] {
+        PARENT => Ok(Head::Data {
+            kind: RowKind::Parent,
             number: 0,
             id: 0,
             start: at + 1,
-        };
+        }),
+        CHILD => child_head(sheet, at),
+        CHANGE => change_head(sheet, at, child),
+        DELETE => delete_head(sheet, at, child),
+        DONE => done_head(sheet.section, at),
+        _ => Err(Error::at(ErrorKind::UnknownToken, at)),
     }
-    if token == CHILD {
-        return child_head(slots, schemas, section, at);
-    }
-    if token == CHANGE {
-        return change_head(slots, schemas, section, at, child);
-    }
-    if token == DELETE {
-        return delete_head(slots, section, at, child);
-    }
-    if token == DONE {
-        return done_head(section, at);
-    }
-    Head::Refused(Error {
-        kind: ErrorKind::UnknownToken,
-        offset: at,
-        input: Input::Single,
-    })
 }

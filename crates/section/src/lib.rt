@@ -5,13 +5,14 @@
 
 pub mod check;
 mod children;
+mod elements;
 mod ends;
 mod fill;
 pub mod heads;
 pub mod list;
 mod notes;
 pub mod pass;
-pub mod read;
+mod read;
 mod runs;
-mod said;
+mod sheet;
 mod table;

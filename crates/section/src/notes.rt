@@ -4,16 +4,12 @@ ghost use Rattle.section.specs.Sizes.{in_step, NotedAt, NotedIs};
 
 use crate::heads::PARENT;
 use wire::bytes::lacks;
-use wire::integer::wide;
 
 // Whether the element of a token is passed by its step, and not noted.
 pub(crate) fn is_stepped(step: usize, token: u8) -> bool
     ensures { result ≡ in_step step token }
 {
-    if step == 0 {
-        return false;
-    }
-    token == PARENT
+    step != 0 && token == PARENT
 }
 
 // Notes the size of an element at `i`, a 0 behind it, and answers where the next one goes. What can't be noted ends the notes.
@@ -31,6 +27,7 @@ pub(crate) fn note(sizes: &mut [u8], i: usize, size: usize, stepped: bool) -> us
             return i + 1;
         }
         if size < 65_536 {
+            // Kept: four stores; a copy of an array of four is no shorter.
             sizes[i] = 255;
             sizes[i + 1] = (size / 256) as u8;
             sizes[i + 2] = (size % 256) as u8;
@@ -41,33 +38,29 @@ pub(crate) fn note(sizes: &mut [u8], i: usize, size: usize, stepped: bool) -> us
     sizes.len()
 }
 
-// A size that was noted, and where the next one is; 0 bytes say that none was.
+// A size that was noted, and where the next one is.
 #[derive(Clone, Copy)]
-pub struct Size {
-    pub bytes: usize,
-    pub next: usize,
+pub(crate) struct Size {
+    pub(crate) bytes: usize,
+    pub(crate) next: usize,
 }
 
-// The size that is noted at `i`.
-pub(crate) fn noted_at(sizes: &[u8], i: usize, stepped: bool) -> Size
+// The size that is noted at `i`; a 0 says that none is.
+#[tactic(auto, using(crate::proofs::Noting::read_stepped, crate::proofs::Noting::read_none, crate::proofs::Noting::read_zero, crate::proofs::Noting::read_one, crate::proofs::Noting::read_three, wire::proofs::Laws::enough_le, wire::proofs::Laws::lacked_lt))]
+pub(crate) fn noted_at(sizes: &[u8], i: usize, stepped: bool) -> Option<Size>
     ensures { NotedIs sizes.now i stepped result }
 {
-    if stepped {
-        return Size { bytes: 0, next: i };
+    if stepped || lacks(sizes.len(), i, 3) || sizes[i] == 0 {
+        return None;
     }
-    if lacks(sizes.len(), i, 3) {
-        return Size { bytes: 0, next: i };
-    }
-    let size = wide(sizes[i]);
-    if size < 255 {
-        return Size {
-            bytes: size,
+    if sizes[i] < 255 {
+        return Some(Size {
+            bytes: usize::from(sizes[i]),
             next: i + 1,
-        };
+        });
     }
-    let long = 256 * wide(sizes[i + 1]) + wide(sizes[i + 2]);
-    Size {
-        bytes: long,
+    Some(Size {
+        bytes: 256 * usize::from(sizes[i + 1]) + usize::from(sizes[i + 2]),
         next: i + 3,
-    }
+    })
 }

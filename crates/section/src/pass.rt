@@ -3,15 +3,13 @@ ghost use Rattle.std.specs.Prelude.{◌≡◌, true, false, ◌≤◌, ◌<◌, 
 ghost use Rattle.shapes.specs.Shapes.{Sound};
 ghost use Rattle.shapes.specs.Masks.{Shaped};
 ghost use Rattle.quick.specs.Quick.{RowStep};
-ghost use Rattle.section.specs.Passes.{PassedTo, PassedIn, InBounds, DeletedAt};
+ghost use Rattle.section.specs.Passes.{PassedTo, PassedIn, InBounds};
 
-use crate::ends::quick_end;
-use crate::heads::{DELETE, paired_id};
+use crate::elements::quick_element;
 use crate::runs::{MOST_STEP, run};
-use crate::said::head_said;
+use crate::sheet::Sheet;
 use shapes::shapes::SCHEMAS;
 use wire::LIMIT;
-use wire::integer::IntRead;
 
 // Elements that were passed: the rows that they add, where the next element stands, the child before it.
 #[derive(Clone, Copy)]
@@ -25,46 +23,14 @@ pub struct Passed {
 fn is_outside(schemas: usize, child: usize, size: usize, start: usize, step: usize) -> bool
     ensures { result ≡ false → InBounds schemas child size start step }
 {
-    if SCHEMAS < schemas {
-        return true;
-    }
-    if schemas <= child {
-        return true;
-    }
-    if LIMIT < size {
-        return true;
-    }
-    if size < start {
-        return true;
-    }
-    MOST_STEP < step
+    SCHEMAS < schemas || schemas <= child || LIMIT < size || size < start || MOST_STEP < step
 }
 
 // Whether an end lies behind `at`, in a section of `size` bytes.
 fn lies(at: usize, end: usize, size: usize) -> bool
     ensures { result ≡ true → (at < end) × (end ≤ size) }
 {
-    if end <= at {
-        return false;
-    }
-    end <= size
-}
-
-// Whether a whole 8C element stands at `at`, behind its 87 element, whose schema has the number `child`.
-fn is_deleted(slots: &[u64; 512], section: &[u8], at: usize, child: usize) -> bool
-    requires { child < 256 }
-    ensures { result ≡ true → DeletedAt slots.now section.now child at }
-{
-    if section.len() <= at {
-        return false;
-    }
-    if section[at] != DELETE {
-        return false;
-    }
-    match paired_id(slots, section, at, child) {
-        IntRead::Refused(_) => false,
-        IntRead::Int(_) => true,
-    }
+    at < end && end <= size
 }
 
 // Goes over whole elements from `start` on, as far as the quick way says where they end: how many rows they add, where the next element
@@ -88,29 +54,33 @@ pub fn pass_elements(
             child,
         };
     }
+    let sheet = Sheet {
+        slots,
+        schemas,
+        shapes,
+        section,
+        step,
+    };
     let mut rows = 0;
     let mut at = start;
     let mut before = child;
     let mut last = child;
+    // Kept: each element says where the next one is.
     loop {
-        let n = run(section, at, step);
+        let n = run(&sheet, at);
         if n == 0 {
-            let said = head_said(slots, schemas, section, at, before, last);
-            let next = quick_end(shapes, said.number, said.kind, section, said.start);
-            if lies(at, next, section.len()) {
-                at = next;
-                if said.kind == 3 {
-                    before = 0;
-                } else {
-                    rows += 1;
-                    before = said.number;
-                    last = said.number;
+            match quick_element(&sheet, at, before, last) {
+                Some(element) if lies(at, element.end, section.len()) => {
+                    at = element.end;
+                    if element.kind.is_new() {
+                        rows += 1;
+                        before = element.number;
+                        last = element.number;
+                    } else {
+                        before = 0;
+                    }
                 }
-            } else {
-                if is_deleted(slots, section, at, before) {
-                    at += 5;
-                    before = 0;
-                } else {
+                _ => {
                     return Passed {
                         rows,
                         at,

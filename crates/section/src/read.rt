@@ -4,104 +4,83 @@ ghost use Rattle.tree.specs.Table.{schemas_in};
 ghost use Rattle.section.specs.Sizes.{Blank};
 ghost use Rattle.section.specs.Scan.{Ready, Scanned};
 
-use crate::ends::{quick_end, turn, turns_of};
-use crate::heads::{Head, head_at};
+use crate::elements::{Element, quick_element};
+use crate::ends::{turn, turns_of};
+use crate::heads::{Head, RowKind, head_at};
 use crate::notes::{is_stepped, note};
 use crate::runs::run;
-use crate::said::head_said;
+use crate::sheet::Sheet;
 use wire::error::Error;
-use wire::integer::IntRead;
-
-// How many rows a section has, or why it is refused.
-#[derive(Clone, Copy)]
-pub enum RowsRead {
-    Rows(usize),
-    Refused(Error),
-}
 
 // The pass that checks a section: how many rows it has, or the first error. The sizes of elements are noted, as far as there is room.
-pub(crate) fn scan(
-    slots: &[u64; 512],
-    shapes: &[usize],
-    schemas: usize,
-    section: &[u8],
-    step: usize,
-    sizes: &mut [u8],
-) -> RowsRead
-    requires { Ready slots.now shapes.now schemas section.now step × Blank sizes.old }
-    ensures { Scanned (schemas_in 0 schemas slots.now) section.now step sizes.new result × (length sizes.new ≡ length sizes.old) }
+// What the quick way does not say is asked of the head and of the columns; the first refusal leaves both loops.
+pub(crate) fn scan(sheet: &Sheet, sizes: &mut [u8]) -> Result<usize, Error>
+    requires { Ready sheet.now.slots.now sheet.now.shapes.now sheet.now.schemas sheet.now.section.now sheet.now.step × Blank sizes.old }
+    ensures { Scanned (schemas_in 0 sheet.now.schemas sheet.now.slots.now) sheet.now.section.now sheet.now.step sizes.new result × (length sizes.new ≡ length sizes.old) }
 {
+    // A copy, whose numbers the loop need not read anew after each write into `sizes`.
+    let own = *sheet;
     let mut at = 0;
     let mut rows = 0;
     let mut child = 0;
     let mut last = 0;
     let mut used = 0;
-    let answer = 'section: loop {
-        let n = run(section, at, step);
-        if n == 0 {
-            let said = head_said(slots, schemas, section, at, child, last);
-            let next = quick_end(shapes, said.number, said.kind, section, said.start);
-            if next == 0 {
-                match head_at(slots, schemas, section, at, child) {
-                    Head::Refused(e) => {
-                        break 'section RowsRead::Refused(e);
+    // Kept: the project's scope wants this form here: a loop over elements and columns, left by a label; an element says where the next one is.
+    'section: loop {
+        let n = run(&own, at);
+        if n > 0 {
+            rows += n;
+            at += n * own.step;
+            child = 0;
+        } else {
+            let element = match quick_element(&own, at, child, last) {
+                Some(element) => element,
+                None => match head_at(&own, at, child) {
+                    Err(e) => {
+                        break 'section Err(e);
                     }
-                    Head::Done => {
-                        break 'section RowsRead::Rows(rows);
+                    Ok(Head::Done) => {
+                        break 'section Ok(rows);
                     }
-                    Head::Delete(id) => {
-                        used = note(sizes, used, 5, false);
-                        at += 5;
-                        child = 0;
-                    }
-                    Head::Data {
-                        kind,
-                        number,
-                        id,
-                        start,
-                    } => {
-                        let update = kind == 3;
-                        let turns = turns_of(slots, number, 0);
+                    Ok(Head::Delete(_)) => Element {
+                        kind: RowKind::Delete,
+                        number: child,
+                        end: at + 5,
+                    },
+                    Ok(
+                        Head::Data {
+                            kind,
+                            number,
+                            id: _,
+                            start,
+                        },
+                    ) => {
+                        let update = kind.is_change();
                         let mut end = 0;
-                        let mut i = 0;
-                        while i < turns {
-                            match turn(slots, number, update, section, start, i, end) {
-                                IntRead::Refused(fault) => {
-                                    break 'section RowsRead::Refused(fault);
+                        for i in 0..turns_of(own.slots, number) {
+                            match turn(own.slots, number, update, own.section, start, i, end) {
+                                Err(fault) => {
+                                    break 'section Err(fault);
                                 }
-                                IntRead::Int(p) => {
+                                Ok(p) => {
                                     end = p;
-                                    i += 1;
                                 }
                             }
                         }
-                        used = note(sizes, used, end - at, is_stepped(step, section[at]));
-                        at = end;
-                        if update {
-                            child = 0;
-                        } else {
-                            rows += 1;
-                            child = number;
-                            last = number;
-                        }
+                        Element { kind, number, end }
                     }
-                }
+                },
+            };
+            let stepped = is_stepped(own.step, own.section[at]);
+            used = note(sizes, used, element.end - at, stepped);
+            at = element.end;
+            if element.kind.is_new() {
+                rows += 1;
+                child = element.number;
+                last = element.number;
             } else {
-                used = note(sizes, used, next - at, is_stepped(step, section[at]));
-                at = next;
-                if said.kind == 3 {
-                    child = 0;
-                } else {
-                    rows += 1;
-                    child = said.number;
-                    last = said.number;
-                }
+                child = 0;
             }
-        } else {
-            rows += n;
-            at += n * step;
-            child = 0;
         }
-    };
-    answer
+    }
 }

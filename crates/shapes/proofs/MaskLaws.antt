@@ -11,19 +11,24 @@ use lib.ListN.{length, get_or, set, length-set}
 use lib.Seq.{get_or-set_same, get_or-set_other}
 use lib.Pow.{pow-add, shl-shr, shr-shr}
 use lib.Bits.{bit_or}
+use mir.Val.{bool_byte}
 use Rattle.maps.specs.Maps.{top_bit}
 use Rattle.column.specs.declared.column.Column.{Column}
 use Rattle.column.specs.Columns.{is_chapter}
-use Rattle.walk.specs.Presence.{Mark, mark, no_mark, marks, bit_of}
+use Rattle.column.specs.Packed.{packed_at}
+use Rattle.walk.specs.Presence.{Mark, mark, no_mark, marks, bit_of, one}
 use Rattle.walk.specs.Updates.{numbered}
 use Rattle.walk.proofs.Laws.{bit_few, length_marks, mark_at}
+use Rattle.walk.proofs.Slots.{length_from, asked}
 use Rattle.walk.proofs.UpdateLaws.{length_numbered, number_at_lem}
-use Rattle.tree.specs.Schemas.{as_column}
-use Rattle.tree.specs.Table.{entry_in}
-use Rattle.shapes.specs.Shapes.{bit_mask}
+use Rattle.shapes.specs.Shapes.{bit_mask, slice_columns}
 use Rattle.shapes.specs.Masks.{Covers, BitAdded, is_marked, is_nested, is_unforced, is_any, Masked, ForcedAdded, MasksAdded}
-use Rattle.shapes.proofs.Slots.{in_slots, length_slots, slot_asked}
 use Rattle.maps.proofs.MapBits.{bit_small, or_bit}
+
+-- a test in a sum
+pub bool_one : (b : Bool) {n : ℕ} → n ≡ bool_byte b → n ≡ one b
+bool_one true e = e
+bool_one false e = e
 
 -- the mask of a bit, as code makes it
 pub mask_is : (i : ℕ) → i < 64 → 9223372036854775808 / 2 ^ i ≡ bit_mask i
@@ -77,38 +82,38 @@ Presenting cs p n = CoversTo p is_marked (marks 0 cs) n
 pub present_start : (cs : List Column) → Presenting cs 0 0
 present_start cs = below_none _
 
-module _ (slots : List ℕ) (first count n : ℕ) (c : Column) (few : count ≤ 64) (h : n < count) (e : c ≡ as_column (entry_in (get_or slots (first + n) 0))) where
-  here : n < length (in_slots slots first count)
-  here = omega (arith, length_slots slots first count, h)
+module _ (slots : List ℕ) (n : ℕ) (c : Column) (few : length slots ≤ 64) (h : n < length slots) (e : c ≡ packed_at slots n) where
+  here : n < length (slice_columns slots)
+  here = omega (arith, length_from slots (length slots) 0, h)
 
-  bits_few : (i : ℕ) → i < n → (get_or (marks 0 (in_slots slots first count)) i no_mark).bit < 64
+  bits_few : (i : ℕ) → i < n → (get_or (marks 0 (slice_columns slots)) i no_mark).bit < 64
   bits_few i l =
-      omega (arith, few, h, l, ap (λ (m : Mark). m.bit) (mark_at (in_slots slots first count) i (omega (arith, here, l))), bit_few (in_slots slots first count) i)
+      omega (arith, few, h, l, ap (λ (m : Mark). m.bit) (mark_at (slice_columns slots) i (omega (arith, here, l))), bit_few (slice_columns slots) i)
 
-  numbers_few : (i : ℕ) → i < n → (get_or (numbered 0 (in_slots slots first count)) i no_mark).bit < 64
-  numbers_few i l = omega (arith, few, h, l, ap (λ (m : Mark). m.bit) (number_at_lem (in_slots slots first count) i (omega (arith, here, l))))
+  numbers_few : (i : ℕ) → i < n → (get_or (numbered 0 (slice_columns slots)) i no_mark).bit < 64
+  numbers_few i l = omega (arith, few, h, l, ap (λ (m : Mark). m.bit) (number_at_lem (slice_columns slots) i (omega (arith, here, l))))
 
   -- a column more: its bit of the presence map
   pub present_next :
-      {mask b r : ℕ} {on : Bool} → Presenting (in_slots slots first count) mask n → b ≡ bit_of (in_slots slots first count) n →
-      on ≡ is_marked (mark c 0) → BitAdded mask b on r → Presenting (in_slots slots first count) r (n + 1)
+      {mask b r : ℕ} {on : Bool} → Presenting (slice_columns slots) mask n → b ≡ bit_of (slice_columns slots) n →
+      on ≡ is_marked (mark c 0) → BitAdded mask b on r → Presenting (slice_columns slots) r (n + 1)
   present_next m g t a =
-      covers_next is_marked (marks 0 (in_slots slots first count)) n bits_few m
-      (ap (λ (m : Mark). m.bit) (mark_at (in_slots slots first count) n here) ∙ sym g)
-      (ap is_marked (mark_at (in_slots slots first count) n here) ∙ slot_asked slots first count (λ (x : Column). is_marked (mark x 0)) n c h e t) a
+      covers_next is_marked (marks 0 (slice_columns slots)) n bits_few m
+      (ap (λ (m : Mark). m.bit) (mark_at (slice_columns slots) n here) ∙ sym g)
+      (ap is_marked (mark_at (slice_columns slots) n here) ∙ asked slots (λ (x : Column). is_marked (mark x 0)) (length slots) n c h e t) a
 
   -- its bit of a map of update data
   number_next :
-      {mask r : ℕ} {on : Bool} (test : Column → Bool) → CoversTo mask (λ m. test m.column) (numbered 0 (in_slots slots first count)) n →
-      on ≡ test c → BitAdded mask n on r → CoversTo r (λ m. test m.column) (numbered 0 (in_slots slots first count)) (n + 1)
+      {mask r : ℕ} {on : Bool} (test : Column → Bool) → CoversTo mask (λ m. test m.column) (numbered 0 (slice_columns slots)) n →
+      on ≡ test c → BitAdded mask n on r → CoversTo r (λ m. test m.column) (numbered 0 (slice_columns slots)) (n + 1)
   number_next test m t a =
-      covers_next (λ (m : Mark). test m.column) (numbered 0 (in_slots slots first count)) n numbers_few m
-      (ap (λ (m : Mark). m.bit) (number_at_lem (in_slots slots first count) n here))
-      (ap (λ (m : Mark). test m.column) (number_at_lem (in_slots slots first count) n here) ∙ slot_asked slots first count test n c h e t) a
+      covers_next (λ (m : Mark). test m.column) (numbered 0 (slice_columns slots)) n numbers_few m
+      (ap (λ (m : Mark). m.bit) (number_at_lem (slice_columns slots) n here))
+      (ap (λ (m : Mark). test m.column) (number_at_lem (slice_columns slots) n here) ∙ asked slots test (length slots) n c h e t) a
 
   pub mask_next :
-      {d u a d' u' a' : ℕ} {nested unforced : Bool} → Masking (in_slots slots first count) d u a n → nested ≡ is_chapter c → BitAdded d n nested d' →
-      unforced ≡ is_unforced (mark c 0) → BitAdded u n unforced u' → BitAdded a n true a' → Masking (in_slots slots first count) d' u' a' (n + 1)
+      {d u a d' u' a' : ℕ} {nested unforced : Bool} → Masking (slice_columns slots) d u a n → nested ≡ is_chapter c → BitAdded d n nested d' →
+      unforced ≡ is_unforced (mark c 0) → BitAdded u n unforced u' → BitAdded a n true a' → Masking (slice_columns slots) d' u' a' (n + 1)
   mask_next m td ad tu au aa =
       record {
         chapters = number_next is_chapter m.chapters td ad;

@@ -1,23 +1,27 @@
 -- Columns that stand in slots of a table: what code asks of column i is asked of slot `first` + i.
 -- Assumes nothing.
-use Prim.Native.Nat.{ℕ, ◌+◌, ◌≤◌, ◌<◌, min}
+use Prim.Native.Nat.{ℕ, ◌+◌, ◌-◌, ◌≤◌, ◌<◌, min}
 use mathlib.Core.Path.{◌≡◌, refl, sym, ap, ◌∙◌}
 use mathlib.Core.List.{List, map}
 use mathlib.Core.Bool.{Bool}
 use native.Mathlib.Omega.{arith}
-use lib.ListN.{length, length-map, get_or, get_or-map}
+use lib.ListN.{length, length-map, length-take, length-drop, get_or, get_or-map, take, drop}
+use Rattle.std.proofs.Common.{get_or-take, get_or-drop}
+use lib.Seq.{ext_get_or}
 use Rattle.column.specs.declared.column.Column.{Column}
 use Rattle.column.specs.declared.columns.Columns.{Columns}
 use Rattle.column.specs.Columns.{is_nullable}
+use Rattle.column.specs.Packed.{unpacked_column}
 use Rattle.column.specs.Layout.{most_columns, layout, columns_in}
 use Rattle.walk.specs.Presence.{no_column, one, bit_of}
 use Rattle.walk.proofs.Laws.{bit_next, bit_few}
+use Rattle.walk.proofs.Slots.{length_from, column_from}
 use Rattle.walk.proofs.Arrays.{columns_laid}
 use Rattle.tree.specs.Tree.{most_file_columns}
 use Rattle.tree.specs.Schemas.{entry, as_column}
 use Rattle.tree.specs.Table.{entry_in, entries_in}
 use Rattle.tree.proofs.TableSays.{entries_length, entries_at}
-use Rattle.shapes.specs.Shapes.{Held, Sound}
+use Rattle.shapes.specs.Shapes.{Held, Sound, slice_columns}
 
 -- the slots of each schema lie in a sound table
 pub sound_held : {slots : List ℕ} {n k : ℕ} → Sound slots n → k < n → Held slots k
@@ -60,3 +64,16 @@ module _ (slots : List ℕ) (first count : ℕ) where
       let a : min first most_file_columns ≡ first = omega (arith, inside) in
       let b : min count most_columns ≡ count = omega (arith, few) in
       ap (λ (x : Columns). columns_in x) (e ∙ rw (a, b) refl) ∙ columns_laid (in_slots slots first count) (omega (arith, length_slots, few))
+
+  -- code that is lent this part of a table has these columns
+  pub slots_lent : first + count ≤ length slots → slice_columns (take (first + count - first) (drop first slots)) ≡ in_slots slots first count
+  slots_lent h =
+      let part : List ℕ = take (first + count - first) (drop first slots) in
+      let n : length part ≡ count = simp (length-take, length-drop) (omega arith) in
+      let l : length (slice_columns part) ≡ count = length_from part (length part) 0 ∙ n in
+      ext_get_or no_column (slice_columns part) (in_slots slots first count) (l ∙ sym length_slots)
+      (λ i g.
+      let here : i < first + count - first = omega (arith, g, l) in
+      column_from part (length part) i (omega (arith, g, l, n))
+      ∙ ap unpacked_column (get_or-take (first + count - first) (drop first slots) i 0 here ∙ get_or-drop first slots i 0)
+      ∙ sym (slot_at i (omega (arith, g, l))))

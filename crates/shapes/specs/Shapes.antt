@@ -5,6 +5,7 @@
 use Rattle.std.specs.Prelude.{ℕ, ◌+◌, ◌*◌, ◌-◌, ◌/◌, ◌%◌, ◌^◌, ◌<◌, ◌≤◌, ◌≡◌, ◌⊎◌, List, map, Bool, true, false, length, get_or}
 use Rattle.std.proofs.Math.Option.{some}
 use Rattle.column.specs.declared.column.Column.{Column}
+use Rattle.column.specs.Packed.{packed_from}
 use Rattle.column.specs.Stops.{Stop, no_stop, stop_in}
 use Rattle.tree.specs.Schemas.{as_column, column_count, child_number}
 use Rattle.tree.specs.Table.{schema_slot, start_in, count_in, id_in, entries_in, schemas_in}
@@ -73,6 +74,10 @@ pub record Sound (slots : List ℕ) (n : ℕ) : Type 0 where
   pub once : (k : ℕ) → 1 ≤ k → k < n → child_number (schemas_in 0 n slots) (id_in (get_or slots (schema_slot k) 0)) ≡ some k
 
 -- Inner.
+
+-- the columns in slots of a table that are lent as a part of it
+abbrev pub slice_columns : (slots : List ℕ) → List Column
+slice_columns slots = packed_from (length slots) 0 slots
 
 -- the slots of schema number k lie in the table
 pub record Held (slots : List ℕ) (k : ℕ) : Type 0 where

@@ -14,7 +14,7 @@ use Rattle.maps.specs.Maps.{top_bit}
 use Rattle.wire.proofs.Laws.{int_suc, int_zero}
 use Rattle.column.specs.declared.column.Column.{Column}
 use Rattle.column.specs.Columns.{width, is_variable, is_wide, prefix_size, greatest}
-use Rattle.column.specs.Stops.{Stop, stop_flags, stop_of, prefix_of, flag, stop_word, stop_in, length_at, Fits}
+use Rattle.column.specs.Stops.{Stop, stop_of, prefix_of, flag, stop_word, stop_in, length_at, Fits}
 use Rattle.column.proofs.Laws.{greatest_wide, greatest_plain}
 use Rattle.column.proofs.Stops.{width_few}
 
@@ -44,14 +44,6 @@ module _ (c : Column) where
 flag_few : (b : Bool) → flag b ≤ 1
 flag_few true = omega arith
 flag_few false = omega arith
-
--- the flags in their places
-pub flags_told :
-    (free : Bool) (c : Column) {v l e f : ℕ} → v ≡ flag (is_variable c) → l ≡ flag (eqb (prefix_size c) 4) → e ≡ flag (is_wide c) → f ≡ flag free →
-    (4194304 * v + 8388608 * l + 16777216 * e + 33554432 * f ≡ stop_flags free c) × (4194304 * v + 8388608 * l + 16777216 * e + 33554432 * f < 67108864)
-unfolding stop_flags
-flags_told free c v l e f =
-    (rw (v, l, e, f), omega (arith, flag_few (is_variable c), flag_few (eqb (prefix_size c) 4), flag_few (is_wide c), flag_few free))
 
 -- A number made of parts that have room, and the parts again.
 

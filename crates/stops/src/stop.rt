@@ -6,7 +6,7 @@ ghost use Rattle.column.specs.Columns.{width, is_variable, prefix_size};
 ghost use Rattle.column.specs.Stops.{flag, stop_flags, stop_of, stop_word, stop_in, prefix_of, length_at};
 
 use column::column::Column;
-use wire::integer::{u32_before, u32_or_zero, wide};
+use wire::integer::{u32_before, u32_or_zero};
 
 // Gaps are less than this.
 const GAPS: usize = 65_536;
@@ -26,13 +26,6 @@ const SIZE: usize = 134_217_728;
 
 const MOST: usize = 4_294_967_296;
 
-// A flag as a number.
-fn flag(on: bool) -> usize
-    ensures { (result ≡ flag on) × (result ≤ 1) }
-{
-    if on { 1 } else { 0 }
-}
-
 // The place of the stop's bit, from the lowest one up; 0 where the field is always there.
 fn place_of(free: bool, bit: usize) -> usize
     ensures { (result ≡ 63 - pick free (bit % 64) 63) × (result < 64) }
@@ -41,6 +34,7 @@ fn place_of(free: bool, bit: usize) -> usize
 }
 
 // The bytes of the prefix, or of the whole field where it has none; `size` is the column's width.
+#[tactic(auto, using(column::proofs::Stops::width_few, crate::proofs::StopLaws::size_width))]
 fn size_of(column: Column, size: usize) -> usize
     ensures { (size ≡ width column → result ≡ pick (is_variable column) (prefix_size column) (width column)) × (result < 32) }
 {
@@ -52,16 +46,18 @@ fn size_of(column: Column, size: usize) -> usize
 }
 
 // The flags, in their places.
+#[tactic(auto, unfolding(column::specs::Stops::stop_flags))]
 fn flags_of(column: Column, free: bool) -> usize
     ensures { (result ≡ stop_flags free column) × (result < 67108864) }
 {
-    VARIABLE * flag(column.is_variable())
-        + LONG * flag(column.prefix_size() == 4)
-        + EVEN * flag(column.is_wide())
-        + FREE * flag(free)
+    VARIABLE * usize::from(column.is_variable())
+        + LONG * usize::from(column.prefix_size() == 4)
+        + EVEN * usize::from(column.is_wide())
+        + FREE * usize::from(free)
 }
 
 // The number of the stop of a column of width `size`: the gap before it, its bit in the map, and whether that bit decides on its field.
+#[tactic(auto, unfolding(column::specs::Stops::stop_word, column::specs::Stops::stop_of, column::specs::Stops::stop_flags))]
 pub fn stop_sized(column: Column, size: usize, free: bool, gap: usize, bit: usize) -> usize
     ensures { size ≡ width column → result ≡ stop_word (stop_of free column (gap % 65536) (bit % 64)) }
 {
@@ -80,6 +76,7 @@ pub fn stop_word(column: Column, free: bool, gap: usize, bit: usize) -> usize
 }
 
 // The bytes from the end of the last stop up to this one.
+#[tactic(auto, unfolding(column::specs::Stops::stop_in))]
 pub fn gap_in(word: usize) -> usize
     ensures { (result ≡ (stop_in word).gap) × (result < 65536) }
 {
@@ -87,6 +84,7 @@ pub fn gap_in(word: usize) -> usize
 }
 
 // The bytes of its prefix, or of the whole field where it has none.
+#[tactic(auto, unfolding(column::specs::Stops::stop_in))]
 pub fn size_in(word: usize) -> usize
     ensures { (result ≡ (stop_in word).size) × (result < 32) }
 {
@@ -94,6 +92,7 @@ pub fn size_in(word: usize) -> usize
 }
 
 // The greatest length.
+#[tactic(auto, unfolding(column::specs::Stops::stop_in))]
 pub fn most_in(word: usize) -> usize
     ensures { (result ≡ (stop_in word).most) × (result < 4294967296) }
 {
@@ -101,6 +100,7 @@ pub fn most_in(word: usize) -> usize
 }
 
 // Whether its field carries a length.
+#[tactic(auto, unfolding(column::specs::Stops::stop_in))]
 pub fn is_variable_in(word: usize) -> bool
     ensures { result ≡ (stop_in word).variable }
 {
@@ -108,6 +108,7 @@ pub fn is_variable_in(word: usize) -> bool
 }
 
 // Whether that length takes four bytes, else one.
+#[tactic(auto, unfolding(column::specs::Stops::stop_in))]
 pub fn is_long_in(word: usize) -> bool
     ensures { result ≡ (stop_in word).long }
 {
@@ -118,13 +119,11 @@ pub fn is_long_in(word: usize) -> bool
 pub fn prefix_in(word: usize) -> usize
     ensures { (result ≡ prefix_of (stop_in word)) × (result ≤ 4) }
 {
-    if is_long_in(word) {
-        return 4;
-    }
-    1
+    if is_long_in(word) { 4 } else { 1 }
 }
 
 // Whether it must be even.
+#[tactic(auto, unfolding(column::specs::Stops::stop_in))]
 pub fn is_even_in(word: usize) -> bool
     ensures { result ≡ (stop_in word).even }
 {
@@ -132,6 +131,7 @@ pub fn is_even_in(word: usize) -> bool
 }
 
 // Whether a bit of the map decides on the field.
+#[tactic(auto, unfolding(column::specs::Stops::stop_in))]
 pub fn is_free_in(word: usize) -> bool
     ensures { result ≡ (stop_in word).free }
 {
@@ -139,6 +139,7 @@ pub fn is_free_in(word: usize) -> bool
 }
 
 // The stop's bit among the first 64 bits of a map.
+#[tactic(auto, using(crate::proofs::StopLaws::bit_placed))]
 pub fn bit_on(word: usize, bits: u64) -> usize
     ensures { (result ≡ top_bit bits (stop_in word).bit) × (result ≤ 1) }
 {
@@ -146,6 +147,7 @@ pub fn bit_on(word: usize, bits: u64) -> usize
 }
 
 // The length that the prefix at `at` says; 0 where the prefix is not whole.
+#[tactic(auto, using(crate::proofs::StopLaws::long_length, crate::proofs::StopLaws::short_none, crate::proofs::StopLaws::short_whole))]
 pub fn length_at(word: usize, s: &[u8], at: usize) -> usize
     ensures { result ≡ length_at (stop_in word) s.now at }
 {
@@ -155,10 +157,11 @@ pub fn length_at(word: usize, s: &[u8], at: usize) -> usize
     if s.len() <= at {
         return 0;
     }
-    wide(s[at])
+    usize::from(s[at])
 }
 
 // The length in the four bytes that end at `end`; 0 where they are not there.
+#[tactic(auto, using(crate::proofs::StopLaws::long_before))]
 pub fn long_before(s: &[u8], end: usize) -> usize
     ensures { (word at : ℕ) → (stop_in word).long ≡ true → end ≡ at + 4 → result ≡ length_at (stop_in word) s.now at }
 {
@@ -166,14 +169,12 @@ pub fn long_before(s: &[u8], end: usize) -> usize
 }
 
 // The length in the byte that ends at `end`; 0 where it is not there.
+#[tactic(auto, using(crate::proofs::StopLaws::short_none, crate::proofs::StopLaws::short_before))]
 pub fn short_before(s: &[u8], end: usize) -> usize
     ensures { (word at : ℕ) → (stop_in word).long ≡ false → end ≡ at + 1 → result ≡ length_at (stop_in word) s.now at }
 {
-    if s.len() < end {
+    if s.len() < end || end < 1 {
         return 0;
     }
-    if end < 1 {
-        return 0;
-    }
-    wide(s[end - 1])
+    usize::from(s[end - 1])
 }

@@ -1,49 +1,49 @@
 // Row data of either kind, opened and gone over column by column: update data where `update` says so, else original row data.
 ghost use Rattle.std.specs.Prelude.{◌≡◌, true, false, ◌<◌, length};
-ghost use Rattle.wire.specs.Integers.{told_int};
+ghost use Rattle.wire.specs.Read.{told};
 ghost use Rattle.column.specs.Layout.{columns_in};
 ghost use Rattle.walk.specs.Presence.{mark, mark_of, no_column};
 ghost use Rattle.walk.specs.Data.{data_opened, data_passed, HasAt};
 
-use crate::column_of;
 use crate::updates::{is_carried, open_update};
 use column::columns::Columns;
-use column::field::{FieldRead, field_at};
+use column::field::field_at;
 use row::marks::{has_field, opened};
 use wire::bits::map_bytes;
-use wire::integer::IntRead;
-use wire::lesser;
+use wire::error::Error;
 
 // The row data at `at` open: where their fields start.
 #[inline(always)]
-pub fn open_data(columns: Columns, update: bool, s: &[u8], at: usize) -> IntRead
-    ensures { told_int result ≡ data_opened update (columns_in columns) s.now at }
+pub fn open_data(columns: Columns, update: bool, s: &[u8], at: usize) -> Result<usize, Error>
+    ensures { told result ≡ data_opened update (columns_in columns) s.now at }
 {
+    // Kept: a choice of two calls, here and below; a closure for them is no plainer.
     if update {
-        let n = lesser(columns.count, 64);
-        return open_update(&columns.codes, &columns.flags, &columns.maxima, n, s, at);
+        open_update(columns.as_slice(), s, at)
+    } else {
+        opened(columns, s, at)
     }
-    opened(columns, s, at)
 }
 
 // Whether the row data at `start` have a field of column `i`.
+#[tactic(auto, unfolding(walk::specs::Updates::update_bytes), using(walk::proofs::Data::has_carried, walk::proofs::Data::has_present, walk::proofs::Laws::map_few))]
 fn has_data(columns: Columns, update: bool, s: &[u8], start: usize, i: usize) -> bool
     ensures { i < length (columns_in columns) → HasAt update (columns_in columns) s.now start i result }
 {
-    let from = lesser(start, s.len());
+    let from = start.min(s.len());
     if update {
-        if 64 <= i {
+        let list = columns.as_slice();
+        if list.len() <= i {
             return false;
         }
-        let size = map_bytes(lesser(columns.count, 64));
-        let force = lesser(from + size, s.len());
-        let column = column_of(&columns.codes, &columns.flags, &columns.maxima, i);
-        return is_carried(column, i, &s[from..], &s[force..]);
+        let force = (from + map_bytes(list.len())).min(s.len());
+        return is_carried(list[i], i, &s[from..], &s[force..]);
     }
     has_field(columns, &s[from..], i)
 }
 
 // Past column `i` of the row data at `start`, from a position.
+#[tactic(auto, using(walk::proofs::Data::data_column, walk::proofs::Data::passed_absent, walk::proofs::Data::passed_field, walk::proofs::Data::passed_refused))]
 pub fn pass_column(
     columns: Columns,
     update: bool,
@@ -51,18 +51,13 @@ pub fn pass_column(
     start: usize,
     i: usize,
     at: usize,
-) -> IntRead
-    ensures { i < length (columns_in columns) → told_int result ≡ data_passed update (columns_in columns) s.now start i at }
+) -> Result<usize, Error>
+    ensures { i < length (columns_in columns) → told result ≡ data_passed update (columns_in columns) s.now start i at }
 {
-    if 64 <= i {
-        return IntRead::Int(at);
+    let list = columns.as_slice();
+    if list.len() <= i || !has_data(columns, update, s, start, i) {
+        return Ok(at);
     }
-    if has_data(columns, update, s, start, i) {
-        let column = column_of(&columns.codes, &columns.flags, &columns.maxima, i);
-        return match field_at(column, s, at) {
-            FieldRead::Refused(e) => IntRead::Refused(e),
-            FieldRead::Found(f) => IntRead::Int(f.end),
-        };
-    }
-    IntRead::Int(at)
+    let f = field_at(list[i], s, at)?;
+    Ok(f.end)
 }

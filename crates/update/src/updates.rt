@@ -1,10 +1,9 @@
 // Update data: their two maps checked in full, the walk over their fields, their end, and look-up in them.
-ghost use Rattle.std.specs.Prelude.{◌≡◌, ◌+◌, ◌≤◌, ◌<◌, length, drop};
-ghost use Rattle.wire.specs.Read.{ok, told_match};
+ghost use Rattle.std.specs.Prelude.{◌≡◌, ◌+◌, ◌≤◌, ◌<◌, length, drop, Err};
+ghost use Rattle.wire.specs.Read.{ok, told};
 ghost use Rattle.wire.specs.Bits.{map_bytes};
-ghost use Rattle.wire.specs.Integers.{told_int};
 ghost use Rattle.wire.specs.declared.error.Input.TheVariants as input;
-ghost use Rattle.column.specs.Layout.{columns_from, columns_in};
+ghost use Rattle.column.specs.Layout.{columns_in};
 ghost use Rattle.walk.specs.Presence.{mark, clear};
 ghost use Rattle.walk.specs.Rows.{place, walk};
 ghost use Rattle.walk.specs.Updates.{numbered, chapter_marked, force_broken, carried, update_opened, update_end, look_update, look_update_row};
@@ -12,16 +11,14 @@ ghost use Rattle.update.specs.declared.updates.UpdateLookUp.TheVariants as look;
 ghost use Rattle.row.specs.Told.{told_walk};
 ghost use Rattle.update.specs.Told.{told_update};
 
-use crate::column_of;
 use column::column::Column;
 use column::columns::Columns;
-use column::field::{Field, FieldRead, field_at};
-use row::rows::WalkRead;
+use column::field::{Field, field_at};
+use row::rows::Walked;
+use wire::LIMIT;
 use wire::bits::{is_set, map_bytes};
-use wire::bytes::{Matched, lacks};
-use wire::error::{Error, ErrorKind, Input};
-use wire::integer::IntRead;
-use wire::{LIMIT, lesser};
+use wire::bytes::lacks;
+use wire::error::{Error, ErrorKind, Input, about};
 
 // What update data say of a column.
 #[derive(Clone, Copy)]
@@ -30,301 +27,170 @@ pub enum UpdateLookUp {
     Null,
     Unchanged,
     Chapter,
-    Refused(Error),
 }
 
 // Whether column `i` is a chapter whose bit is set in a map.
+#[tactic(auto, unfolding(walk::specs::Updates::chapter_marked))]
 pub fn is_chapter_marked(column: Column, i: usize, map: &[u8]) -> bool
     ensures { result ≡ chapter_marked map.now (mark column i) }
 {
-    if column.is_chapter() {
-        return is_set(map, i);
-    }
-    false
+    column.is_chapter() && is_set(map, i)
 }
 
 // Whether column `i` is forced to null where it is not changed or may not be null.
+#[tactic(auto, unfolding(walk::specs::Updates::force_broken))]
 pub fn breaks_force(column: Column, i: usize, update: &[u8], force: &[u8]) -> bool
     ensures { result ≡ force_broken update.now force.now (mark column i) }
 {
-    if is_set(force, i) {
-        if is_set(update, i) {
-            if column.is_nullable() {
-                return false;
-            }
-        }
-        return true;
-    }
-    false
+    is_set(force, i) && !(is_set(update, i) && column.is_nullable())
 }
 
 // Whether update data hold a field of column `i`.
+#[tactic(auto, unfolding(walk::specs::Updates::carried))]
 pub fn is_carried(column: Column, i: usize, update: &[u8], force: &[u8]) -> bool
     ensures { result ≡ carried update.now force.now (mark column i) }
 {
-    if is_set(update, i) {
-        if is_set(force, i) {
-            return false;
-        }
-        return true;
-    }
-    false
+    is_set(update, i) && !is_set(force, i)
 }
 
-// The map at `at` of an input has no chapter's bit set.
-fn check_chapters<'a>(
-    codes: &'a [u8; 64],
-    flags: &'a [u8; 64],
-    maxima: &'a [u16; 64],
-    n: usize,
-    row: &[u8],
-    at: usize,
-) -> Matched
-    requires { (n ≤ 64) × (at + map_bytes n ≤ length row.now) }
-    ensures { told_match result ≡ clear (chapter_marked (drop at row.now)) 12 at (numbered 0 (columns_from n 0 codes.now flags.now maxima.now)) }
+// A map of update data, which stands at `at` of an input, has no chapter's bit set.
+#[tactic(auto, using(walk::proofs::UpdateLaws::rule_end, walk::proofs::UpdateLaws::rule_found, walk::proofs::UpdateLaws::rule_next, walk::proofs::UpdateLaws::map_byte))]
+fn check_chapters(columns: &[Column], map: &[u8], at: usize) -> Result<(), Error>
+    requires { at + map_bytes (length columns.now) < 18446744073709551616 }
+    ensures { told result ≡ clear (chapter_marked map.now) 12 at (numbered 0 columns.now) }
 {
-    let mut i = 0;
-    while i < n {
-        let column = column_of(codes, flags, maxima, i);
-        if is_chapter_marked(column, i, &row[at..]) {
-            return Matched::Refused(Error {
-                kind: ErrorKind::ChapterBit,
-                offset: at + i / 8,
-                input: Input::Single,
-            });
+    for (i, column) in columns.iter().enumerate() {
+        if is_chapter_marked(*column, i, map) {
+            return Err(Error::at(ErrorKind::ChapterBit, at + i / 8));
         }
-        i += 1;
     }
-    Matched::Same
+    Ok(())
 }
 
-// The force-null map, which stands at `force`, keeps its rule with the update map at `at`.
-fn check_force<'a>(
-    codes: &'a [u8; 64],
-    flags: &'a [u8; 64],
-    maxima: &'a [u16; 64],
-    n: usize,
-    row: &[u8],
-    at: usize,
-    force: usize,
-) -> Matched
-    requires { (n ≤ 64) × (at ≤ force) × (force + map_bytes n ≤ length row.now) }
-    ensures { told_match result ≡ clear (force_broken (drop at row.now) (drop force row.now)) 13 force (numbered 0 (columns_from n 0 codes.now flags.now maxima.now)) }
+// The force-null map, which stands at `at` of an input, keeps its rule with the update map.
+// Kept: one loop for both rules, with the rule as a closure, would need the rule in its contract as well, which is no plainer.
+#[tactic(auto, using(walk::proofs::UpdateLaws::rule_end, walk::proofs::UpdateLaws::rule_found, walk::proofs::UpdateLaws::rule_next, walk::proofs::UpdateLaws::map_byte))]
+fn check_force(columns: &[Column], update: &[u8], force: &[u8], at: usize) -> Result<(), Error>
+    requires { at + map_bytes (length columns.now) < 18446744073709551616 }
+    ensures { told result ≡ clear (force_broken update.now force.now) 13 at (numbered 0 columns.now) }
 {
-    let mut i = 0;
-    while i < n {
-        let column = column_of(codes, flags, maxima, i);
-        if breaks_force(column, i, &row[at..], &row[force..]) {
-            return Matched::Refused(Error {
-                kind: ErrorKind::ForceNull,
-                offset: force + i / 8,
-                input: Input::Single,
-            });
+    for (i, column) in columns.iter().enumerate() {
+        if breaks_force(*column, i, update, force) {
+            return Err(Error::at(ErrorKind::ForceNull, at + i / 8));
         }
-        i += 1;
     }
-    Matched::Same
+    Ok(())
 }
 
 // Opens the update data at `at`: their maps are whole and keep all rules. Where their fields start.
-pub(crate) fn open_update<'a>(
-    codes: &'a [u8; 64],
-    flags: &'a [u8; 64],
-    maxima: &'a [u16; 64],
-    n: usize,
-    row: &[u8],
-    at: usize,
-) -> IntRead
-    requires { n ≤ 64 }
-    ensures { told_int result ≡ update_opened (columns_from n 0 codes.now flags.now maxima.now) row.now at }
+#[tactic(auto, unfolding(walk::specs::Updates::update_bytes), using(walk::proofs::UpdateLaws::update_short, walk::proofs::UpdateLaws::update_chapter, walk::proofs::UpdateLaws::force_chapter, walk::proofs::UpdateLaws::force_rule, walk::proofs::UpdateLaws::update_well, walk::proofs::Laws::map_few, walk::proofs::Arrays::rest))]
+pub(crate) fn open_update(columns: &[Column], row: &[u8], at: usize) -> Result<usize, Error>
+    requires { length columns.now ≤ 64 }
+    ensures { told result ≡ update_opened columns.now row.now at }
 {
-    let size = map_bytes(n);
+    let size = map_bytes(columns.len());
     if lacks(row.len(), at, 2 * size) {
-        return IntRead::Refused(Error::short(row.len()));
+        return Err(Error::short(row.len()));
     }
-    let force = at + size;
-    let start = force + size;
-    match check_chapters(codes, flags, maxima, n, row, at) {
-        Matched::Refused(e) => IntRead::Refused(e),
-        Matched::Same => match check_chapters(codes, flags, maxima, n, row, force) {
-            Matched::Refused(e) => IntRead::Refused(e),
-            Matched::Same => match check_force(codes, flags, maxima, n, row, at, force) {
-                Matched::Refused(e) => IntRead::Refused(e),
-                Matched::Same => IntRead::Int(start),
-            },
-        },
-    }
+    let update = &row[at..];
+    let force = &row[at + size..];
+    check_chapters(columns, update, at)?;
+    check_chapters(columns, force, at + size)?;
+    check_force(columns, update, force, at + size)?;
+    Ok(at + 2 * size)
 }
 
 // The walk of update data from `start` over the first `k` columns, by these maps.
-fn walk_update<'a>(
-    codes: &'a [u8; 64],
-    flags: &'a [u8; 64],
-    maxima: &'a [u16; 64],
-    n: usize,
+#[tactic(auto, using(walk::proofs::Laws::walk_zero))]
+fn walk_update(
+    columns: &[Column],
     update: &[u8],
     force: &[u8],
     row: &[u8],
     start: usize,
     k: usize,
-) -> WalkRead
-    requires { n ≤ 64 }
-    ensures { told_walk result ≡ walk (carried update.now force.now) row.now k (numbered 0 (columns_from n 0 codes.now flags.now maxima.now)) (place start 0) }
+) -> Result<Walked, Error>
+    requires { length columns.now ≤ 64 }
+    ensures { told_walk result ≡ walk (carried update.now force.now) row.now k (numbered 0 columns.now) (place start 0) }
 {
-    let last = lesser(n, k);
     let mut position = start;
     let mut prefixes = 0;
-    let mut i = 0;
-    while i < last {
-        let column = column_of(codes, flags, maxima, i);
+    for i in 0..k.min(columns.len()) {
+        let column = columns[i];
         if is_carried(column, i, update, force) {
-            match field_at(column, row, position) {
-                FieldRead::Refused(e) => {
-                    return WalkRead::Refused(e);
-                }
-                FieldRead::Found(f) => {
-                    position = f.end;
-                    prefixes += f.prefixes;
-                    i += 1;
-                }
-            }
-        } else {
-            i += 1;
+            let f = field_at(column, row, position)?;
+            position = f.end;
+            prefixes += f.prefixes;
         }
     }
-    WalkRead::At {
-        position: position,
-        prefixes: prefixes,
-    }
+    Ok(Walked { position, prefixes })
 }
 
 // Where the update data at `at` end, all their fields included; they are examined in full.
-fn end_of_update<'a>(
-    codes: &'a [u8; 64],
-    flags: &'a [u8; 64],
-    maxima: &'a [u16; 64],
-    n: usize,
-    row: &[u8],
-    at: usize,
-) -> IntRead
-    requires { n ≤ 64 }
-    ensures { told_int result ≡ update_end (columns_from n 0 codes.now flags.now maxima.now) row.now at }
+#[tactic(auto, unfolding(walk::specs::Updates::update_bytes), using(walk::proofs::UpdateLaws::update_end_closed, walk::proofs::UpdateLaws::update_end_refused, walk::proofs::UpdateLaws::update_end_reached, walk::proofs::UpdateLaws::update_walked_from, walk::proofs::UpdateFound::update_opened_ok, walk::proofs::Arrays::rest, walk::proofs::Laws::map_few))]
+fn end_of_update(columns: &[Column], row: &[u8], at: usize) -> Result<usize, Error>
+    requires { length columns.now ≤ 64 }
+    ensures { told result ≡ update_end columns.now row.now at }
 {
-    match open_update(codes, flags, maxima, n, row, at) {
-        IntRead::Refused(e) => IntRead::Refused(e),
-        IntRead::Int(start) => {
-            let force = at + map_bytes(n);
-            match walk_update(
-                codes,
-                flags,
-                maxima,
-                n,
-                &row[at..],
-                &row[force..],
-                row,
-                start,
-                n,
-            ) {
-                WalkRead::Refused(e) => IntRead::Refused(e),
-                WalkRead::At {
-                    position,
-                    prefixes: _,
-                } => IntRead::Int(position),
-            }
-        }
-    }
-}
-
-// The same error, about the update data.
-fn about_update(e: Error) -> UpdateLookUp
-    ensures { result ≡ look.Refused (record { kind = e.kind; offset = e.offset; input = input.Update }) }
-{
-    UpdateLookUp::Refused(e.about(Input::Update))
+    let start = open_update(columns, row, at)?;
+    let force = at + map_bytes(columns.len());
+    let walked = walk_update(
+        columns,
+        &row[at..],
+        &row[force..],
+        row,
+        start,
+        columns.len(),
+    )?;
+    Ok(walked.position)
 }
 
 // Column `k` of update data that are well formed and end at `end`.
-fn update_at<'a>(
-    codes: &'a [u8; 64],
-    flags: &'a [u8; 64],
-    maxima: &'a [u16; 64],
-    n: usize,
-    update: &[u8],
-    k: usize,
-    end: usize,
-) -> UpdateLookUp
-    requires { (n ≤ 64) × (k < n) × (update_end (columns_from n 0 codes.now flags.now maxima.now) update.now 0 ≡ ok end) }
-    ensures { told_update result ≡ look_update (columns_from n 0 codes.now flags.now maxima.now) update.now k }
+#[tactic(auto, unfolding(walk::specs::Updates::update_bytes), using(walk::proofs::UpdateLaws::look_update_chapter, walk::proofs::UpdateLaws::look_update_unchanged, walk::proofs::UpdateLaws::look_update_null, walk::proofs::UpdateLaws::look_update_walk, walk::proofs::UpdateLaws::look_update_bad, walk::proofs::UpdateLaws::look_update_found, walk::proofs::UpdateLaws::update_walked_from, walk::proofs::UpdateFound::update_end_told, walk::proofs::Arrays::rest, walk::proofs::Arrays::few_prefixes, walk::proofs::Found::walk_few, walk::proofs::Laws::map_few, wire::proofs::Pieces::about_was, wire::proofs::Pieces::about_err))]
+fn update_at(columns: &[Column], update: &[u8], k: usize, end: usize) -> Result<UpdateLookUp, Error>
+    requires { (length columns.now ≤ 64) × (k < length columns.now) × (update_end columns.now update.now 0 ≡ ok end) }
+    ensures { told_update result ≡ look_update columns.now update.now k }
 {
-    let column = column_of(codes, flags, maxima, k);
+    let column = columns[k];
     if column.is_chapter() {
-        return UpdateLookUp::Chapter;
+        return Ok(UpdateLookUp::Chapter);
     }
-    let size = map_bytes(n);
-    if is_set(update, k) {
-        if is_set(&update[size..], k) {
-            return UpdateLookUp::Null;
-        }
-        return match walk_update(
-            codes,
-            flags,
-            maxima,
-            n,
-            update,
-            &update[size..],
-            update,
-            2 * size,
-            k,
-        ) {
-            WalkRead::Refused(e) => about_update(e),
-            WalkRead::At { position, prefixes } => match field_at(column, update, position) {
-                FieldRead::Refused(e) => about_update(e),
-                FieldRead::Found(f) => UpdateLookUp::Found(Field {
-                    start: f.start,
-                    end: f.end,
-                    prefixes: prefixes + f.prefixes,
-                }),
-            },
-        };
+    if !is_set(update, k) {
+        return Ok(UpdateLookUp::Unchanged);
     }
-    UpdateLookUp::Unchanged
+    let size = map_bytes(columns.len());
+    let force = &update[size..];
+    if is_set(force, k) {
+        return Ok(UpdateLookUp::Null);
+    }
+    let walked = walk_update(columns, update, force, update, 2 * size, k);
+    let Walked { position, prefixes } = about(walked, Input::Update)?;
+    let f = about(field_at(column, update, position), Input::Update)?;
+    Ok(UpdateLookUp::Found(Field {
+        prefixes: prefixes + f.prefixes,
+        ..f
+    }))
 }
 
 // What update data of these columns say of column `k`; they are examined in full first.
-pub fn look_update(columns: Columns, update: &[u8], k: usize) -> UpdateLookUp
+#[tactic(auto, using(walk::proofs::UpdateLaws::look_update_large, walk::proofs::UpdateLaws::look_update_sized, walk::proofs::UpdateLaws::look_update_column, walk::proofs::UpdateLaws::look_update_refused, wire::proofs::Pieces::about_was, wire::proofs::Pieces::about_err))]
+pub fn look_update(columns: Columns, update: &[u8], k: usize) -> Result<UpdateLookUp, Error>
     ensures { told_update result ≡ look_update_row (columns_in columns) update.now k }
 {
     if update.len() > LIMIT {
-        return UpdateLookUp::Refused(Error::at_start(ErrorKind::TooLarge, Input::Update));
+        return Err(Error::at_start(ErrorKind::TooLarge, Input::Update));
     }
-    let n = lesser(columns.count, 64);
-    if k >= n {
-        return UpdateLookUp::Refused(Error::at_start(ErrorKind::Missing, Input::Column));
+    let list = columns.as_slice();
+    if k >= list.len() {
+        return Err(Error::at_start(ErrorKind::Missing, Input::Column));
     }
-    match end_of_update(
-        &columns.codes,
-        &columns.flags,
-        &columns.maxima,
-        n,
-        update,
-        0,
-    ) {
-        IntRead::Refused(e) => about_update(e),
-        IntRead::Int(end) => update_at(
-            &columns.codes,
-            &columns.flags,
-            &columns.maxima,
-            n,
-            update,
-            k,
-            end,
-        ),
-    }
+    let end = about(end_of_update(list, update, 0), Input::Update)?;
+    update_at(list, update, k, end)
 }
 
 // Where the update data at `at` of an input end, all their fields included.
-pub fn update_end(columns: Columns, row: &[u8], at: usize) -> IntRead
-    ensures { told_int result ≡ update_end (columns_in columns) row.now at }
+pub fn update_end(columns: Columns, row: &[u8], at: usize) -> Result<usize, Error>
+    ensures { told result ≡ update_end (columns_in columns) row.now at }
 {
-    let n = lesser(columns.count, 64);
-    end_of_update(&columns.codes, &columns.flags, &columns.maxima, n, row, at)
+    end_of_update(columns.as_slice(), row, at)
 }

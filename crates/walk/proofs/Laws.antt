@@ -6,7 +6,7 @@ use mathlib.Core.Bool.{Bool, true, false}
 use mathlib.Core.Path.{◌≡◌, refl, ap, ◌∙◌}
 use native.Mathlib.Numerals.{add-one}
 use native.Mathlib.Omega.{arith}
-use lib.ListN.{length, get_or, take, drop, drop_of_length-le, get_or-map}
+use lib.ListN.{length, get_or, take, drop, drop_of_length-le}
 use lib.Seq.{drop-cons, take-length}
 use lib.Dec.{ltb}
 use native.Mathlib.Decide.{le_ind}
@@ -20,7 +20,7 @@ use Rattle.column.specs.declared.column.Column.{Column}
 use Rattle.column.specs.declared.field.Field.{Field}
 use Rattle.column.specs.Columns.{is_chapter, is_nullable}
 use Rattle.column.specs.Fields.{field_at}
-use Rattle.column.specs.Layout.{most_columns, padded, layout}
+use Rattle.column.specs.Layout.{padded}
 use Rattle.walk.specs.Presence.{no_column, one, nullables, presence_bytes, Mark, mark, no_mark, marks, bit_of, mark_of, present, chapter_present, clear}
 use Rattle.walk.specs.Rows.{Place, place, past, step, walk, arrive, opened, walked, row_end, field, null, chapter, field_of, column_of, known, look_up, look_up_row, always, set_bits, field_count}
 
@@ -118,10 +118,6 @@ module _ (map : Bytes) (c : Column) (b : ℕ) where
       go : (t : Bool) → is_chapter c ≡ t → pick t (pick (is_nullable c) (bit_set map b) false) false ≡ false
       go true e = rw n
       go false e = refl
-
-  pub chapter_none : is_chapter c ≡ false → chapter_present map (mark c b) ≡ false
-  unfolding chapter_present
-  chapter_none e = rw e
 
 -- A rule over the marks, checked one by one: those before i keep it.
 
@@ -382,24 +378,6 @@ map_few n = omega arith
 
 -- Columns that are always present, and set bits, counted along a loop.
 
-pub always_zero : (cs : List Column) → always (take 0 cs) ≡ 0
-unfolding always
-always_zero cs = refl
-
-always_suc :
-    (cs : List Column) (i : ℕ) → i < length cs →
-    always (take (suc i) cs) ≡ always (take i cs) + pick (is_chapter (get_or cs i no_column)) 0 (pick (is_nullable (get_or cs i no_column)) 0 1)
-unfolding always
-always_suc [] i h = absurd (omega arith)
-always_suc (c ∷ cs) zero h = omega arith
-always_suc (c ∷ cs) (suc i) h = omega (arith, always_suc cs i (omega arith))
-
--- one column more, by what is counted for it
-pub always_one :
-    (cs : List Column) (i : ℕ) → i < length cs → {o : ℕ} → pick (is_chapter (get_or cs i no_column)) 0 (pick (is_nullable (get_or cs i no_column)) 0 1) ≡ o →
-    always (take (i + 1) cs) ≡ always (take i cs) + o
-always_one cs i h e = rw (add-one i) (always_suc cs i h ∙ ap (λ (o : ℕ). always (take i cs) + o) e)
-
 -- no more than there are columns
 pub always_few : (cs : List Column) (i : ℕ) → always (take i cs) ≤ i
 unfolding always
@@ -423,7 +401,7 @@ pub set_next : (map : Bytes) (n : ℕ) → set_bits map (n + 1) ≡ set_bits map
 unfolding set_bits
 set_next map n = rw (add-one n)
 
--- Columns by value.
+-- Numbers with zeros behind.
 
 pub padded_at : (n : ℕ) (l : List ℕ) (i : ℕ) → i < n → get_or (padded n l) i 0 ≡ get_or l i 0
 unfolding padded
@@ -432,26 +410,3 @@ padded_at (suc n) [] zero h = refl
 padded_at (suc n) [] (suc i) h = padded_at n [] i (omega arith)
 padded_at (suc n) (a ∷ l) zero h = refl
 padded_at (suc n) (a ∷ l) (suc i) h = padded_at n l i (omega arith)
-
-pub layout_count : (cs : List Column) → (layout cs).count ≡ length cs
-unfolding layout
-layout_count cs = refl
-
-module _ (cs : List Column) (i : ℕ) (h : i < most_columns) where
-  pub layout_code : get_or (layout cs).codes i 0 ≡ (get_or cs i no_column).code
-  unfolding layout
-  layout_code = padded_at most_columns (map (λ (c : Column). c.code) cs) i h ∙ get_or-map (λ (c : Column). c.code) cs i no_column
-
-  pub layout_flags : get_or (layout cs).flags i 0 ≡ (get_or cs i no_column).flags
-  unfolding layout
-  layout_flags = padded_at most_columns (map (λ (c : Column). c.flags) cs) i h ∙ get_or-map (λ (c : Column). c.flags) cs i no_column
-
-  pub layout_maximum : get_or (layout cs).maxima i 0 ≡ (get_or cs i no_column).maximum
-  unfolding layout
-  layout_maximum = padded_at most_columns (map (λ (c : Column). c.maximum) cs) i h ∙ get_or-map (λ (c : Column). c.maximum) cs i no_column
-
-  -- column i, from the three arrays
-  pub layout_column :
-      {code flags maximum : ℕ} → code ≡ get_or (layout cs).codes i 0 → flags ≡ get_or (layout cs).flags i 0 → maximum ≡ get_or (layout cs).maxima i 0 →
-      record { code = code; flags = flags; maximum = maximum } ≡ get_or cs i no_column
-  layout_column c f m = rw (c ∙ layout_code, f ∙ layout_flags, m ∙ layout_maximum) refl

@@ -2,24 +2,35 @@
 -- Assumes nothing.
 use Prim.Native.Nat.{ℕ, zero, suc, ◌+◌, ◌≤◌, ◌<◌}
 use mathlib.Core.Path.{◌≡◌, refl, sym, ap, ◌∙◌}
-use mathlib.Core.List.{List, ◌∷◌}
+use mathlib.Core.List.{List, ◌∷◌, map}
+use Rattle.std.specs.Prelude.{cond, not}
+use Rattle.std.specs.List.{count_by}
+use Rattle.std.proofs.lemmas.List.Recursion.{is_count_by}
 use mathlib.Core.Bool.{Bool, true, false, true≢false}
 use native.Mathlib.Omega.{arith}
+use mir.Val.{bool_byte}
 use lib.ListN.{length, get_or, take}
-use lib.Dec.{ltb, leb}
-use borrow.Author.Tests.{ltb-true, ltb-false, leb-true}
+use lib.Dec.{leb}
+use borrow.Author.Tests.{leb-true}
 use Rattle.column.specs.declared.column.Column.{Column}
 use Rattle.wire.specs.Read.{Bytes, ok, pick, check}
 use Rattle.column.specs.Columns.{width, is_nullable, is_variable, is_chapter}
 use Rattle.column.specs.Fields.{field, field_at, bytes_at}
-use Rattle.column.specs.Packed.{packed_at, packed_from}
+use Rattle.column.specs.Packed.{unpacked_column, packed_at, packed_from}
+use Rattle.column.proofs.PackedLaws.{packed_map}
 use Rattle.column.proofs.Laws.{bytes_fit}
 use Rattle.walk.specs.Presence.{no_column, one, nullables, Mark, mark, marks, bit_of, mark_of, chapter_present, clear}
+use Rattle.walk.specs.Rows.{always}
 use Rattle.walk.proofs.Laws.{bit_next, bit_few}
 
 pub one_few : (t : Bool) → one t ≤ 1
 one_few true = omega arith
 one_few false = omega arith
+
+-- the number of a test, as code makes it
+pub one_byte : (t : Bool) → bool_byte t ≡ one t
+one_byte true = refl
+one_byte false = refl
 
 module _ (slots : List ℕ) where
   pub length_from : (n i : ℕ) → length (packed_from n i slots) ≡ n
@@ -82,21 +93,33 @@ module _ (slots : List ℕ) where
   no_chapter_set map code at zero i b h = refl
   no_chapter_set map code at (suc n) i b h = rw (h i (omega arith)) (no_chapter_set map code at n (i + 1) _ (λ j l. h j (omega (arith, l))))
 
-  -- one more column that is none
-  pub no_chapter_next :
-      (count i : ℕ) (c : Column) {t : Bool} {o : ℕ} → (count ≡ 0 → (j : ℕ) → j < i → is_chapter (packed_at slots j) ≡ false) → c ≡ packed_at slots i →
-      t ≡ is_chapter c → o ≡ one t → count + o ≡ 0 → (j : ℕ) → j < i + 1 → is_chapter (packed_at slots j) ≡ false
-  no_chapter_next count i c {t} {o} before e f g z j l = go (ltb j i) refl
-    where
-      plain : (t : Bool) → o ≡ one t → t ≡ false
-      plain true q = absurd (omega arith)
-      plain false q = refl
+-- Columns that pass a test, counted.
 
-      go : (b : Bool) → ltb j i ≡ b → is_chapter (packed_at slots j) ≡ false
-      go true q = before (omega arith) j (ltb-true j i q)
-      go false q =
-          let y : j ≡ i = omega (arith, l, ltb-false j i q) in
-          ap (λ (j : ℕ). is_chapter (packed_at slots j)) y ∙ ap is_chapter (sym e) ∙ sym f ∙ plain t g
+one_more : (t : Bool) (n : ℕ) → one t + n ≡ cond t (1 + n) n
+one_more true n = refl
+one_more false n = omega arith
+
+always_more : (t u : Bool) (n : ℕ) → pick t 0 (pick u 0 1) + n ≡ cond (pick t false (not u)) (1 + n) n
+always_more true u n = omega arith
+always_more false true n = omega arith
+always_more false false n = refl
+
+module _ (slots : List ℕ) where
+  pub nullables_counted : nullables (packed_from (length slots) 0 slots) ≡ count_by (λ s. is_nullable (unpacked_column s)) slots
+  unfolding nullables
+  nullables_counted =
+      ap nullables (packed_map slots)
+      ∙ is_count_by (λ s. nullables (map unpacked_column s)) (λ s. is_nullable (unpacked_column s)) refl
+      (λ s l. one_more (is_nullable (unpacked_column s)) (nullables (map unpacked_column l))) slots
+
+  pub always_counted :
+      always (packed_from (length slots) 0 slots)
+      ≡ count_by (λ s. pick (is_chapter (unpacked_column s)) false (not (is_nullable (unpacked_column s)))) slots
+  unfolding always
+  always_counted =
+      ap always (packed_map slots)
+      ∙ is_count_by (λ s. always (map unpacked_column s)) (λ s. pick (is_chapter (unpacked_column s)) false (not (is_nullable (unpacked_column s)))) refl
+      (λ s l. always_more (is_chapter (unpacked_column s)) (is_nullable (unpacked_column s)) (always (map unpacked_column l))) slots
 
 -- a field of fixed width that is whole
 pub whole_field :

@@ -6,10 +6,11 @@ use Rattle.wire.specs.Read.{Bytes, Read, ok, ◌>>=◌, pick, check}
 use Rattle.wire.specs.Bits.{bit_set, map_bytes}
 use Rattle.column.specs.declared.column.Column.{Column}
 use Rattle.column.specs.Columns.{is_chapter, is_nullable}
+use Rattle.column.specs.Layout.{blank_column}
 
 -- what stands for the column at a number past the last
 abbrev pub no_column : Column
-no_column = record { code = 0; flags = 0; maximum = 0 }
+no_column = blank_column
 
 abbrev pub one : Bool → ℕ
 one true = 1

@@ -4,16 +4,19 @@ use Prim.Native.Nat.{ℕ, zero, suc, ◌+◌, ◌*◌, ◌-◌, ◌/◌, ◌%◌
 use mathlib.Core.Path.{◌≡◌, refl, sym, ap, ◌∙◌, subst}
 use mathlib.Core.List.{[], ◌∷◌, ◌++◌, append_assoc}
 use mathlib.Core.Bool.{Bool, true, false}
+use Rattle.std.specs.Prelude.{Result, Ok, Err}
 use native.Mathlib.Numerals.{add-one}
 use native.Mathlib.Omega.{arith}
 use lib.ListN.{length, take, drop, get_or, length-append, length-take, length-drop, take-append-drop}
 use lib.Seq.{take-append_seam, drop-append_seam, drop-drop, drop-cons, get_or-drop}
 use lib.Dec.{leb, eqb}
 use borrow.Author.Tests.{leb-true, leb-false, le-leb, eqb-true, eq-eqb}
+use Rattle.wire.specs.declared.error.Error.{Error}
 use Rattle.wire.specs.declared.error.Input.{Input}
 use Rattle.wire.specs.declared.error.Input.TheVariants as input
+use Rattle.wire.specs.Errors.{code_of}
 use Rattle.wire.specs.Output.{fitting}
-use Rattle.wire.specs.Read.{Bytes, AreBytes, Read, ok, bad, ◌>>=◌, check, about, cut, whole, byte_at, constants, sized_by, sized, limit}
+use Rattle.wire.specs.Read.{Bytes, AreBytes, Read, ok, bad, ◌>>=◌, check, about, refused, told, cut, whole, byte_at, constants, sized_by, sized, limit}
 use Rattle.wire.specs.Integers.{value_of, int_at, read_int, int_bytes}
 use Rattle.wire.proofs.Laws.{byte_fits, byte_short, length_int, int_fits}
 
@@ -112,6 +115,28 @@ pub about_ok : {A : Type 0} (name : Input) (r : Read A) (a : A) → about name r
 unfolding about
 about_ok name (ok b) a e = e
 about_ok name (bad c p i) a e = absurd (bad_ok e)
+
+-- a `Result` and the same about a named input: both have a value, or both an error
+pub about_was : {A : Type 0} (name : Input) (r s : Result A Error) {a : A} → told s ≡ about name (told r) → s ≡ Ok a → r ≡ Ok a
+unfolding about
+about_was name (Ok b) (Ok c) e w = cc
+about_was name (Ok b) (Err d) e w = cc
+about_was name (Err d) (Ok c) e w = absurd (bad_ok (sym e))
+about_was name (Err d) (Err x) e w = cc
+
+pub about_err :
+    {A B : Type 0} (name : Input) (r s : Result A Error) {x : Error} → told s ≡ about name (told r) → s ≡ Err x →
+    (d : Error) × (r ≡ Err d) × (refused {A = B} x ≡ bad (code_of d.kind) d.offset name)
+unfolding about
+about_err name (Ok b) (Ok c) e w = cc
+about_err name (Ok b) (Err d) e w = absurd (bad_ok e)
+about_err name (Err d) (Ok c) e w = absurd (bad_ok (sym e))
+about_err {A} {B} name (Err d) (Err y) {x} e w =
+    let z : y ≡ x = cc in
+    let k : code_of y.kind ≡ code_of d.kind = cc in
+    let o : y.offset ≡ d.offset = cc in
+    let i : y.input ≡ name = cc in
+    (d, refl, rw (← z, k, o, i) refl)
 
 pub ok_ok : {A : Type 0} {a b : A} → ok a ≡ ok b → a ≡ b
 ok_ok e = cc

@@ -1,10 +1,11 @@
 -- Promise: errors: the number that document 01 gives each kind (its table of refusals), and a number for each input's name.
 -- Assumes nothing.
-use Rattle.std.specs.Prelude.{ℕ}
+use Rattle.std.specs.Prelude.{ℕ, ◌≡◌, ◌<◌, ◌⊎◌, Result, MatchResult}
 use Rattle.wire.specs.declared.error.ErrorKind.{ErrorKind}
 use Rattle.wire.specs.declared.error.ErrorKind.TheVariants as kind
 use Rattle.wire.specs.declared.error.Input.{Input}
 use Rattle.wire.specs.declared.error.Input.TheVariants as input
+use Rattle.wire.specs.declared.error.UnknownCode.{UnknownCode}
 
 -- the paper's number of a kind
 abbrev pub code_of : ErrorKind → ℕ
@@ -28,6 +29,10 @@ code_of kind.PlanMismatch = 17
 code_of kind.Missing = 18
 code_of kind.TooLarge = 19
 code_of kind.Entry = 20
+
+-- the kind with this number, or an error where no kind has it
+abbrev pub Decodes : ℕ → Result ErrorKind UnknownCode → Type 0
+Decodes code r = MatchResult r (λ k. code_of k ≡ code) (λ e. (e.0 ≡ code) × (code ≡ 0 ⊎ 20 < code))
 
 -- the number that stands for an input's name outside: 0 where the call has one input, which has no name
 abbrev pub input_number : Input → ℕ

@@ -1,9 +1,7 @@
 -- Promise: whole numbers on the wire: little-endian. Every integer of the format is read by `int_at` and written by `int_bytes`.
 -- Assumes nothing.
 use Rattle.std.specs.Prelude.{ℕ, zero, suc, ◌+◌, ◌*◌, ◌/◌, ◌%◌, [], ◌∷◌}
-use Rattle.wire.specs.declared.integer.IntRead.{IntRead}
-use Rattle.wire.specs.declared.integer.IntRead.TheVariants.{Int, Refused}
-use Rattle.wire.specs.Read.{Bytes, Read, ok, ◌>>=◌, cut, whole, refused}
+use Rattle.wire.specs.Read.{Bytes, Read, ok, ◌>>=◌, cut, whole}
 
 -- the number that these bytes say, low byte first
 unfoldable pub value_of : Bytes → ℕ
@@ -24,8 +22,3 @@ read_int s at size = do
 unfoldable pub int_bytes : ℕ → ℕ → Bytes
 int_bytes zero n = []
 int_bytes (suc size) n = n % 256 ∷ int_bytes size (n / 256)
-
--- what an `IntRead` says
-abbrev pub told_int : IntRead → Read ℕ
-told_int (Int n) = ok n
-told_int (Refused e) = refused e

@@ -1,13 +1,12 @@
 -- Promise: what a writer leaves in the output that it was lent.
 -- Assumes nothing.
-use Rattle.std.specs.Prelude.{ℕ, ◌+◌, ◌≡◌, ◌++◌, length, take, drop, leb}
+use Rattle.std.specs.Prelude.{ℕ, List, ◌+◌, ◌≡◌, ◌++◌, length, take, drop, leb, Result}
 use Rattle.wire.specs.declared.error.Input.TheVariants as input
-use Rattle.wire.specs.declared.output.Written.{Written}
-use Rattle.wire.specs.declared.output.Written.TheVariants as written
-use Rattle.wire.specs.Read.{Bytes, Read, ok, bad, ◌>>=◌, pick, check, about, refused}
+use Rattle.wire.specs.declared.error.Error.{Error}
+use Rattle.wire.specs.Read.{Bytes, Read, ok, bad, ◌>>=◌, pick, check, about, told}
 
 -- an output with a piece laid over it from `at` on; as it was, where the piece does not fit
-unfoldable pub put : Bytes → ℕ → Bytes → Bytes
+unfoldable pub put : {A : Type 0} → List A → ℕ → List A → List A
 put out at piece =
     pick (leb (at + length piece) (length out)) (take at out ++ piece ++ drop (at + length piece) out) out
 
@@ -28,12 +27,7 @@ fitting piece capacity = do
   _ ← about input.Output (check (leb (length piece) capacity) 16 (length piece))
   ok piece
 
--- what a `Written` says
-abbrev pub told_written : Written → Read ℕ
-told_written (written.Bytes n) = ok n
-told_written (written.Refused e) = refused e
-
 -- What a writer of a piece promises: the size of the piece or the error, and what the output then holds.
-pub record Wrote (piece : Read Bytes) (entry exit : Bytes) (answer : Written) : Type 0 where
-  pub answers : told_written answer ≡ size_of piece
+pub record Wrote (piece : Read Bytes) (entry exit : Bytes) (answer : Result ℕ Error) : Type 0 where
+  pub answers : told answer ≡ size_of piece
   pub leaves : exit ≡ output_after piece entry

@@ -1,11 +1,9 @@
 -- Promise: what every reader is made of: an answer or the first error, and bytes that are there or not.
 -- Assumes nothing.
-use Rattle.std.specs.Prelude.{ℕ, ◌+◌, ◌<◌, List, [], ◌∷◌, Bool, true, false, length, get_or, take, drop, leb, eqb}
+use Rattle.std.specs.Prelude.{ℕ, ◌+◌, ◌<◌, List, [], ◌∷◌, Bool, true, false, length, get_or, take, drop, leb, eqb, Result, Ok, Err}
 use Rattle.wire.specs.declared.error.Error.{Error}
 use Rattle.wire.specs.declared.error.Input.{Input}
 use Rattle.wire.specs.declared.error.Input.TheVariants as input
-use Rattle.wire.specs.declared.bytes.Matched.{Matched}
-use Rattle.wire.specs.declared.bytes.Matched.TheVariants.{Same, Refused}
 use Rattle.wire.specs.Errors.{code_of}
 
 abbrev pub Bytes : Type 0
@@ -44,6 +42,11 @@ about name (bad code offset _) = bad code offset name
 abbrev pub refused : {A : Type 0} → Error → Read A
 refused e = bad (code_of e.kind) e.offset e.input
 
+-- what a reader's `Result` says
+abbrev pub told : {A : Type 0} → Result A Error → Read A
+told (Ok a) = ok a
+told (Err e) = refused e
+
 -- the size limit of an input (the paper's 16,777,216 bytes), checked first
 abbrev pub limit : ℕ
 limit = 16777216
@@ -66,6 +69,12 @@ whole s at n = do
   _ ← check (leb (at + n) (length s)) 1 (length s)
   ok (at + n)
 
+-- those bytes
+unfoldable pub read_bytes : Bytes → ℕ → ℕ → Read Bytes
+read_bytes s at n = do
+  _ ← whole s at n
+  ok (cut s at n)
+
 -- the byte at `at`
 unfoldable pub byte_at : Bytes → ℕ → Read ℕ
 byte_at s at = do
@@ -79,8 +88,3 @@ constants s at (expected ∷ rest) = do
   b ← byte_at s at
   _ ← check (eqb b expected) 2 at
   constants s (at + 1) rest
-
--- what a `Matched` says
-abbrev pub told_match : Matched → Read (Unit {0})
-told_match Same = ok tt
-told_match (Refused e) = refused e

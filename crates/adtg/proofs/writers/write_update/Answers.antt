@@ -1,21 +1,9 @@
--- The columns, then the row.
+-- Nothing is written where the columns are refused.
 -- Assumes nothing.
-use mathlib.Core.Path.{sym}
-use mathlib.Core.List.{List}
-use lib.ListN.{length}
-use Rattle.column.specs.declared.column.Column.{Column}
-use Rattle.encode.specs.Writers.{write_update, values_sized}
-use Rattle.adtg.specs.Writers.{write_update_in}
-use Rattle.adtg.proofs.Laws.{refused_in_lem, found_sized}
-use Rattle.adtg.proofs.Writing.{wrote_refused, wrote_same}
+use mathlib.Core.Path.{refl, ◌∙◌}
+use Rattle.adtg.proofs.Laws.{rewritten_listed}
+use Rattle.adtg.proofs.Writing.{wrote_exit}
 use Rattle.adtg.proofs.writers.write_update.Goals as goal
 
-pub returns-in-Refused : goal.returns-in-Refused
-unfolding write_update_in
-returns-in-Refused c =
-    wrote_refused _ _ _ _ (refused_in_lem c.columns_for-read.ensures (λ (columns : List Column). write_update columns c.args.entries.now c.args.values.now (length c.args.out.now) c.args.place) c.in-Refused.is)
-
-pub returns-in-Yes : goal.returns-in-Yes
-unfolding write_update_in values_sized
-returns-in-Yes c =
-    wrote_same c.write_update.ensures (sym (found_sized c.columns_for-read.ensures (λ (columns : List Column). write_update columns c.args.entries.now c.args.values.now (length c.args.out.now) c.args.place) (λ i. (c.shared_slice_known-1.given i).fits) c.in-Yes.is))
+pub returns-in_err-columns : goal.returns-in_err-columns
+returns-in_err-columns c = wrote_exit _ _ _ _ _ c.from_residual.ensures.1 (rewritten_listed _ _ _ _ _ _ ∙ rw (← c.in_err-columns.ensures) refl)

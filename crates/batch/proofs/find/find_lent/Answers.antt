@@ -8,6 +8,7 @@ use lib.ListN.{length, take}
 use lib.Seq.{length-take-le}
 use Rattle.wire.specs.declared.error.Input.TheVariants as input
 use Rattle.wire.specs.declared.error.ErrorKind.TheVariants as error
+use Rattle.std.proofs.lemmas.Result.{err_from_is_err_and}
 use Rattle.wire.specs.Output.{put}
 use Rattle.plan.specs.Plans.{lent}
 use Rattle.batch.specs.Spans.{rows_of, spans_in, planned}
@@ -21,20 +22,22 @@ returns-then-section-gt-LIMIT c =
 
 pub returns-then-spans-n : goal.returns-then-spans-n
 returns-then-spans-n c =
-    let (xs, q, z) = spans_told (spans_in (planned (lent c.args.plan.now) c.args.column) c.args.section.now c.args.owner (rows_of c.args.rows.now)) c.in-Spans.n c.scan.ensures c.in-Spans.is in found_full (planned (lent c.args.plan.now) c.args.column) c.args.section.now c.args.rows.now c.args.owner c.args.spans.now c.if-section-gt-LIMIT.false xs q _ (ap (λ (o : ℕ). record { kind = error.Capacity; offset = o; input = input.Output }) z) (omega (arith, z, c.if-spans-n.true))
+    let (xs, q, z) = spans_told (spans_in (planned (lent c.args.plan.now) c.args.column) c.args.section.now c.args.owner (rows_of c.args.rows.now)) c.in_ok-n.n c.scan.ensures c.in_ok-n.was in found_full (planned (lent c.args.plan.now) c.args.column) c.args.section.now c.args.rows.now c.args.owner c.args.spans.now c.if-section-gt-LIMIT.false xs q _ (c.about.ensures ∙ rw c.at.ensures (ap (λ (o : ℕ). record { kind = error.Capacity; offset = o; input = input.Output }) z)) (omega (arith, z, c.if-spans-n.true))
 
-pub slice_bounds-copy_numbers-end : goal.slice_bounds-copy_numbers-end
-slice_bounds-copy_numbers-end c =
-    let (xs, q, z) = spans_told (spans_in (planned (lent c.args.plan.now) c.args.column) c.args.section.now c.args.owner (rows_of c.args.rows.now)) c.in-Spans.n c.scan.ensures c.in-Spans.is in let l : length c.scan.new.spans ≡ 512 = ap length (spans_laid xs _ c.scan.ensures c.in-Spans.is q) ∙ length_laid 0 xs _ in sym (length-take-le (2 * c.in-Spans.n) _ (omega (arith, l, c.if-n-le256.true)))
+pub slice_bounds-copy_into-end : goal.slice_bounds-copy_into-end
+slice_bounds-copy_into-end c =
+    let (xs, q, z) = spans_told (spans_in (planned (lent c.args.plan.now) c.args.column) c.args.section.now c.args.owner (rows_of c.args.rows.now)) c.in_ok-n.n c.scan.ensures c.in_ok-n.was in let l : length c.scan.new.spans ≡ 512 = ap length (spans_laid xs _ c.scan.ensures c.in_ok-n.was q) ∙ length_laid 0 xs _ in sym (length-take-le (2 * c.in_ok-n.n) _ (omega (arith, l, c.if-n-le256.true)))
 
 pub returns-then-n-le256 : goal.returns-then-n-le256
 returns-then-n-le256 c =
-    let (xs, q, z) = spans_told (spans_in (planned (lent c.args.plan.now) c.args.column) c.args.section.now c.args.owner (rows_of c.args.rows.now)) c.in-Spans.n c.scan.ensures c.in-Spans.is in found_held (planned (lent c.args.plan.now) c.args.column) c.args.section.now c.args.rows.now c.args.owner c.args.spans.now c.if-section-gt-LIMIT.false xs q _ _ c.in-Spans.n z (omega (arith, c.if-n-le256.true)) (omega (arith, z, c.if-spans-n.false)) (c.copy_numbers.ensures ∙ ap (λ (x : List ℕ). put c.args.spans.now 0 (take (2 * c.in-Spans.n) x)) (spans_laid xs _ c.scan.ensures c.in-Spans.is q))
+    let (xs, q, z) = spans_told (spans_in (planned (lent c.args.plan.now) c.args.column) c.args.section.now c.args.owner (rows_of c.args.rows.now)) c.in_ok-n.n c.scan.ensures c.in_ok-n.was in found_held (planned (lent c.args.plan.now) c.args.column) c.args.section.now c.args.rows.now c.args.owner c.args.spans.now c.if-section-gt-LIMIT.false xs q _ _ c.in_ok-n.n z (omega (arith, c.if-n-le256.true)) (omega (arith, z, c.if-spans-n.false)) (c.copy_into.ensures ∙ ap (λ (x : List ℕ). put c.args.spans.now 0 (take (2 * c.in_ok-n.n) x)) (spans_laid xs _ c.scan.ensures c.in_ok-n.was q))
 
-pub returns-in-Refused : goal.returns-in-Refused
-returns-in-Refused c =
-    found_refused (planned (lent c.args.plan.now) c.args.column) c.args.section.now c.args.rows.now c.args.owner c.args.spans.now c.if-section-gt-LIMIT.false c.in-Refused.e (error_told (spans_in (planned (lent c.args.plan.now) c.args.column) c.args.section.now c.args.owner (rows_of c.args.rows.now)) c.in-Refused.e c.scan.ensures c.in-Refused.is)
+pub returns-in_err-n : goal.returns-in_err-n
+returns-in_err-n c =
+    let p = err_from_is_err_and c.from_residual.result c.from_residual.ensures.1 in
+    rw (p.1, p.2)
+    (found_refused (planned (lent c.args.plan.now) c.args.column) c.args.section.now c.args.rows.now c.args.owner c.args.spans.now c.if-section-gt-LIMIT.false _ (error_told (spans_in (planned (lent c.args.plan.now) c.args.column) c.args.section.now c.args.owner (rows_of c.args.rows.now)) _ c.scan.ensures c.in_err-n.was))
 
-pub returns-else-n-le256 : goal.returns-else-n-le256
-returns-else-n-le256 c =
-    let (xs, q, z) = spans_told (spans_in (planned (lent c.args.plan.now) c.args.column) c.args.section.now c.args.owner (rows_of c.args.rows.now)) c.in-Spans.n c.scan.ensures c.in-Spans.is in found_spans_lem (planned (lent c.args.plan.now) c.args.column) c.args.section.now c.args.rows.now c.args.owner c.args.spans.now c.if-section-gt-LIMIT.false xs q _ _ (omega (arith, z, c.if-spans-n.false)) c.scan-in-Spans.ensures
+pub returns : goal.returns
+returns c =
+    let (xs, q, z) = spans_told (spans_in (planned (lent c.args.plan.now) c.args.column) c.args.section.now c.args.owner (rows_of c.args.rows.now)) c.in_ok-n.n c.scan.ensures c.in_ok-n.was in found_spans_lem (planned (lent c.args.plan.now) c.args.column) c.args.section.now c.args.rows.now c.args.owner c.args.spans.now c.if-section-gt-LIMIT.false xs q _ _ (omega (arith, z, c.if-spans-n.false)) c.scan-2.ensures

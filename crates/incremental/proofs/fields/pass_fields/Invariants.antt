@@ -1,12 +1,8 @@
 -- Up to column i all fields were passed (`Passing`).
 -- Assumes nothing.
-use Prim.Native.Nat.{◌-◌}
 use Rattle.shapes.proofs.Slots.{in_slots}
 use Rattle.incremental.proofs.FieldLaws.{Passing}
 use Rattle.incremental.proofs.fields.pass_fields.Given as goal
 
 abbrev pub invariant-loop-i : goal.invariant-loop-i
-invariant-loop-i l = Passing l.update (in_slots l.slots l.first l.count) l.bits l.j l.fragment l.start l.i l.bit l.at
-
-abbrev pub decreases-loop-i : goal.decreases-loop-i
-decreases-loop-i l = l.count - l.i
+invariant-loop-i l = Passing l.update (in_slots l.slots l.block.first l.block.count) l.bits l.j l.fragment l.start l.i l.bit l.at

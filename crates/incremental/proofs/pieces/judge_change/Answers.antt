@@ -1,31 +1,11 @@
 -- The id is read or not; it is that of the element before, or not; there is a schema with it, or not.
 -- Assumes nothing.
+use mathlib.Core.Path.{sym, ◌∙◌}
 use Prim.Native.Nat.{◌-◌}
-use mathlib.Core.Path.{sym, ap, ◌∙◌}
-use native.Mathlib.Omega.{arith}
-use Rattle.wire.specs.Integers.{told_int}
-use Rattle.tree.specs.Table.{schemas_in}
+use Rattle.incremental.specs.Steps.{schemas_of}
 use Rattle.incremental.specs.Record.{before_by, held_in}
-use Rattle.incremental.proofs.StateLaws.{stopped_anywhere}
-use Rattle.incremental.proofs.PieceLaws.{refused_piece, int_within, change_refused, change_alone, change_unknown, change_known}
+use Rattle.incremental.proofs.PieceLaws.{change_known}
 use Rattle.incremental.proofs.pieces.judge_change.Goals as goal
 
-pub stop_at-requires : goal.stop_at-requires
-stop_at-requires c =
-    let w = int_within (held_in c.args.r) 4 (sym c.id_in.ensures.0 ∙ ap told_int c.in-Refused.is) in (omega (arith, w.inside, c.id_in.ensures.1, c.requires), omega (arith, c.requires))
-
-pub returns-then-not-follows : goal.returns-then-not-follows
-returns-then-not-follows c =
-    rw (change_alone (schemas_in 0 c.args.schemas c.args.slots.now) c.args.r.rows c.args.r.at (held_in c.args.r) (c.args.r.at - 1) (before_by c.args.r.paired c.args.r.id) (sym c.id_in.ensures.0 ∙ ap told_int c.in-Int.is) (sym c.follows.ensures ∙ c.if-not-follows.true)) (stopped_anywhere _ c.stop.ensures)
-
-pub returns-then-child_number-eq0 : goal.returns-then-child_number-eq0
-returns-then-child_number-eq0 c =
-    rw (change_unknown (schemas_in 0 c.args.schemas c.args.slots.now) c.args.r.rows c.args.r.at (held_in c.args.r) (c.args.r.at - 1) (before_by c.args.r.paired c.args.r.id) (sym c.id_in.ensures.0 ∙ ap told_int c.in-Int.is) (sym c.follows.ensures ∙ c.if-not-follows.false) (sym (c.child_number.ensures c.requires.0.top c.requires.0.all) ∙ c.if-child_number-eq0.true)) (stopped_anywhere _ c.stop-then-child_number-eq0.ensures)
-
-pub returns-in-Refused : goal.returns-in-Refused
-returns-in-Refused c =
-    refused_piece c.args.r.at c.in-Refused.e (int_within (held_in c.args.r) 4 (sym c.id_in.ensures.0 ∙ ap told_int c.in-Refused.is)) (change_refused (schemas_in 0 c.args.schemas c.args.slots.now) c.args.r.rows c.args.r.at (held_in c.args.r) (c.args.r.at - 1) (before_by c.args.r.paired c.args.r.id) (sym c.id_in.ensures.0 ∙ ap told_int c.in-Refused.is)) c.stop_at.ensures
-
-pub returns-else-child_number-eq0 : goal.returns-else-child_number-eq0
-returns-else-child_number-eq0 c =
-    rw (change_known (schemas_in 0 c.args.schemas c.args.slots.now) c.args.r.rows c.args.r.at (held_in c.args.r) (c.args.r.at - 1) (before_by c.args.r.paired c.args.r.id) (sym c.id_in.ensures.0 ∙ ap told_int c.in-Int.is) (sym c.follows.ensures ∙ c.if-not-follows.false) (c.child_number.ensures c.requires.0.top c.requires.0.all) c.if-child_number-eq0.false, c.id_in.ensures.1) c.start_row.ensures
+pub returns-in-Some : goal.returns-in-Some
+returns-in-Some c = rw (change_known (schemas_of c.args.sheet.now) c.args.r.now.rows c.args.r.now.at (held_in c.args.r.now) (c.args.r.now.at - 1) (before_by c.args.r.now.paired c.args.r.now.id) (sym c.in_ok-id.ensures.0) (rw c.before-2.ensures at (sym c.follows.ensures ∙ c.if-not-follows.false)) (sym (c.in-Some.ensures c.args.sheet.now.sound.top c.args.sheet.now.sound.all)), c.in_ok-id.ensures.1) c.start_row.ensures

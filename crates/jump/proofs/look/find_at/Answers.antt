@@ -11,21 +11,17 @@ use Rattle.jump.specs.Lent.{found_in}
 use Rattle.jump.proofs.Answers.{found_variable, found_short, found_fixed}
 use Rattle.jump.proofs.look.find_at.Goals as goal
 
-pub find_variable-requires : goal.find_variable-requires
-find_variable-requires c =
-    (sym c.is_variable.ensures ∙ c.if-is_variable.true, c.requires.1)
-
 pub returns-then-is_variable : goal.returns-then-is_variable
 returns-then-is_variable c =
     let v : is_variable (unpacked_column c.args.word) ≡ c.is_variable.result = ap is_variable (sym c.unpack-column.ensures) ∙ sym c.is_variable.ensures in
-    c.find_variable.ensures ∙ ap (λ (d : Column). found_in (place c.args.at c.args.prefixes) (variable_at d c.args.row.now c.args.at)) c.unpack-column.ensures ∙ sym (found_variable c.args.word c.args.row.now (place c.args.at c.args.prefixes) (v ∙ c.if-is_variable.true))
+    c.find_variable.ensures ∙ ap (λ (d : Column). found_in (place c.args.walked.position c.args.walked.prefixes) (variable_at d c.args.row.now c.args.walked.position)) c.unpack-column.ensures ∙ sym (found_variable c.args.word c.args.row.now (place c.args.walked.position c.args.walked.prefixes) (v ∙ c.if-is_variable.true))
 
 pub returns-then-row-end : goal.returns-then-row-end
 returns-then-row-end c =
     let v : is_variable (unpacked_column c.args.word) ≡ c.is_variable.result = ap is_variable (sym c.unpack-column.ensures) ∙ sym c.is_variable.ensures in
-    sym (found_short c.args.word c.args.row.now (place c.args.at c.args.prefixes) (v ∙ c.if-is_variable.false) (omega (arith, c.if-row-end.true, c.width_in.ensures.0)))
+    rw (c.about.ensures, c.at.ensures) (sym (found_short c.args.word c.args.row.now (place c.args.walked.position c.args.walked.prefixes) (v ∙ c.if-is_variable.false) (omega (arith, c.if-row-end.true, c.width_in.ensures.0))))
 
 pub returns : goal.returns
 returns c =
     let v : is_variable (unpacked_column c.args.word) ≡ c.is_variable.result = ap is_variable (sym c.unpack-column.ensures) ∙ sym c.is_variable.ensures in
-    rw c.width_in.ensures.0 (sym (found_fixed c.args.word c.args.row.now (place c.args.at c.args.prefixes) (v ∙ c.if-is_variable.false) (omega (arith, c.if-row-end.false, c.width_in.ensures.0))))
+    rw c.width_in.ensures.0 (sym (found_fixed c.args.word c.args.row.now (place c.args.walked.position c.args.walked.prefixes) (v ∙ c.if-is_variable.false) (omega (arith, c.if-row-end.false, c.width_in.ensures.0))))

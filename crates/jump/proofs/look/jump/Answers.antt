@@ -1,6 +1,6 @@
 -- The stops before the column, then its gap.
 -- Assumes nothing.
-use Prim.Native.Nat.{ℕ, ◌+◌, ◌≤◌}
+use Prim.Native.Nat.{ℕ, ◌+◌}
 use mathlib.Core.Path.{◌≡◌, sym, ap, ◌∙◌}
 use mathlib.Core.List.{map}
 use native.Mathlib.Omega.{arith}
@@ -12,8 +12,8 @@ use Rattle.row.specs.Told.{told_walk}
 use Rattle.plan.specs.declared.plan.Plan.{Plan}
 use Rattle.plan.specs.Plans.{planned_stop, lent}
 use Rattle.jump.specs.Jumps.{stops_gone, tabled, by_bit}
-use Rattle.jump.specs.Lent.{Small}
 use Rattle.jump.proofs.AnyPlan.{way, way_none}
+use Rattle.jump.proofs.Laws.{handed}
 use Rattle.jump.proofs.Answers.{jumped_refused, jumped_well}
 use Rattle.jump.proofs.look.jump.Goals as goal
 
@@ -23,32 +23,20 @@ gone :
     way p row k ≡ r
 gone p row k n e w = ap (λ (n : ℕ). leaps (bit_set row) row (map by_bit (tabled (planned_stop p) n 0)) (place 0 0)) (sym e) ∙ sym w
 
-pub returns-then-n-eq0 : goal.returns-then-n-eq0
-returns-then-n-eq0 c =
+pub returns-then-n-eq0-clause-answers : goal.returns-then-n-eq0-clause-answers
+returns-then-n-eq0-clause-answers c =
+    let p = lent c.args.plan.now in
     let z : 0 + c.gap_in.result ≡ c.gap_in.result = omega arith in
-    record {
-      answers = sym (jumped_well (lent c.args.plan.now) c.args.row.now c.args.k (place 0 0) (way_none (lent c.args.plan.now) c.args.row.now c.args.k (sym c.stops_gone-n.ensures.0 ∙ c.if-n-eq0.true)) c.gap_in.ensures.0 ∙ ap (λ (g : ℕ). ok (place g 0)) z);
-      small = (omega (arith, c.gap_in.ensures.1), omega arith);
-    }
+    sym (jumped_well p c.args.row.now c.args.k (place 0 0) (way_none p c.args.row.now c.args.k (sym c.stops_gone-n.ensures.0 ∙ c.if-n-eq0.true)) c.gap_in.ensures.0
+    ∙ ap (λ (g : ℕ). ok (place g 0)) z)
 
-pub overflow_add-result : goal.overflow_add-result
-overflow_add-result c =
-    let b : Small 549755813888 c.follow.result = c.follow.ensures.small in
-    let d : (c.in-At.position ≤ 549755813888) × (c.in-At.prefixes ≤ 64) = rw c.in-At.is at b in
-    omega (arith, d.0, c.gap_in-in-At.ensures.1)
+pub returns-in_err-walked-clause-answers : goal.returns-in_err-walked-clause-answers
+returns-in_err-walked-clause-answers c =
+    let p = lent c.args.plan.now in
+    ap told_walk (handed _ c.from_residual.ensures.1)
+    ∙ sym (jumped_refused p c.args.row.now c.args.k (gone p c.args.row.now c.args.k c.stops_gone-n.result c.stops_gone-n.ensures.0 c.in_err-walked.ensures.answers))
 
-pub returns-in-Refused : goal.returns-in-Refused
-returns-in-Refused c =
-    record {
-      answers = sym (jumped_refused (lent c.args.plan.now) c.args.row.now c.args.k (gone (lent c.args.plan.now) c.args.row.now c.args.k c.stops_gone-n.result c.stops_gone-n.ensures.0 c.follow.ensures.answers ∙ ap told_walk c.in-Refused.is));
-      small = tt;
-    }
-
-pub returns-in-At : goal.returns-in-At
-returns-in-At c =
-    let b : Small 549755813888 c.follow.result = c.follow.ensures.small in
-    let d : (c.in-At.position ≤ 549755813888) × (c.in-At.prefixes ≤ 64) = rw c.in-At.is at b in
-    record {
-      answers = sym (jumped_well (lent c.args.plan.now) c.args.row.now c.args.k _ (gone (lent c.args.plan.now) c.args.row.now c.args.k c.stops_gone-n.result c.stops_gone-n.ensures.0 c.follow.ensures.answers ∙ ap told_walk c.in-At.is) c.gap_in-in-At.ensures.0);
-      small = (omega (arith, d.0, c.gap_in-in-At.ensures.1), d.1);
-    }
+pub returns-clause-answers : goal.returns-clause-answers
+returns-clause-answers c =
+    let p = lent c.args.plan.now in
+    sym (jumped_well p c.args.row.now c.args.k _ (gone p c.args.row.now c.args.k c.stops_gone-n.result c.stops_gone-n.ensures.0 c.in_ok-walked.ensures.answers) c.gap_in-2.ensures.0)

@@ -1,33 +1,42 @@
 -- The next stop, and then those behind it.
 -- Assumes nothing.
-use Prim.Native.Nat.{◌≤◌, ◌+◌, ◌*◌}
+use Prim.Native.Nat.{◌+◌}
 use mathlib.Core.Path.{refl, sym, ap, ◌∙◌}
 use native.Mathlib.Omega.{arith}
-use Rattle.walk.specs.Rows.{place}
 use Rattle.plan.specs.Plans.{planned_stop, lent}
-use Rattle.jump.specs.Lent.{told_way}
-use Rattle.jump.proofs.Laws.{leaps_on, leaps_stop, leaps_one, near_behind, behind_at}
+use Rattle.jump.specs.Lent.{come, told_way}
+use Rattle.jump.proofs.Laws.{leaps_one, stop_on, stop_bad, handed}
 use Rattle.jump.proofs.look.pass_four.Goals as goal
 
-pub pass-requires : goal.pass-requires
-pass-requires c =
-    (c.requires.0, omega (arith, c.requires.2, c.requires.1), omega (arith, c.requires.3, c.requires.1))
+pub returns-in_err-first-clause-answers : goal.returns-in_err-first-clause-answers
+returns-in_err-first-clause-answers c =
+    let f = planned_stop (lent c.args.plan.now) in
+    let j = c.args.j in
+    ap told_way (handed _ c.from_residual.ensures.1) ∙ sym (stop_bad c.args.row.now f 3 j (come c.args.way) refl c.in_err-first.ensures.answers)
 
-pub pass_three-requires : goal.pass_three-requires
-pass_three-requires c =
-    let d : (c.in-At.b + c.in-At.l ≤ 4295032836 * (c.args.j + 1)) × (c.in-At.q ≤ c.args.j + 1) = rw c.in-At.is at (near_behind c.pass.result c.args.base c.args.length c.args.prefixes c.args.j c.requires.2 c.requires.3 c.pass.ensures.near) in
-    (c.requires.0, omega (arith, c.requires.1), d.0, d.1)
+pub returns-in_err-second-clause-answers : goal.returns-in_err-second-clause-answers
+returns-in_err-second-clause-answers c =
+    let f = planned_stop (lent c.args.plan.now) in
+    let j = c.args.j in
+    ap told_way (handed _ c.from_residual-in_err-second.ensures.1)
+    ∙ sym (stop_on c.args.row.now f 3 j (come c.args.way) refl refl c.in_ok-first.ensures.answers
+    ∙ stop_bad c.args.row.now f 2 (j + 1) (come c.in_ok-first.first) refl c.in_err-second.ensures.answers)
 
-pub returns-in-Refused : goal.returns-in-Refused
-returns-in-Refused c =
-    record {
-      answers = sym (leaps_stop c.args.row.now (planned_stop (lent c.args.plan.now)) 1 3 c.args.j (place (c.args.base + c.args.length) c.args.prefixes) refl refl (leaps_one c.args.row.now (planned_stop (lent c.args.plan.now)) c.args.j (place (c.args.base + c.args.length) c.args.prefixes) ∙ sym c.pass.ensures.answers ∙ ap told_way c.in-Refused.is));
-      behind = tt;
-    }
+pub returns-in_err-third-clause-answers : goal.returns-in_err-third-clause-answers
+returns-in_err-third-clause-answers c =
+    let f = planned_stop (lent c.args.plan.now) in
+    let j = c.args.j in
+    ap told_way (handed _ c.from_residual-in_err-third.ensures.1)
+    ∙ sym (stop_on c.args.row.now f 3 j (come c.args.way) refl refl c.in_ok-first.ensures.answers
+    ∙ stop_on c.args.row.now f 2 (j + 1) (come c.in_ok-first.first) refl (omega arith) c.in_ok-second.ensures.answers
+    ∙ stop_bad c.args.row.now f 1 (j + 2) (come c.in_ok-second.second) refl c.in_err-third.ensures.answers)
 
-pub returns-in-At : goal.returns-in-At
-returns-in-At c =
-    record {
-      answers = c.pass_three.ensures.answers ∙ sym (leaps_on c.args.row.now (planned_stop (lent c.args.plan.now)) 1 3 c.args.j (place (c.args.base + c.args.length) c.args.prefixes) refl refl (leaps_one c.args.row.now (planned_stop (lent c.args.plan.now)) c.args.j (place (c.args.base + c.args.length) c.args.prefixes) ∙ sym c.pass.ensures.answers ∙ ap told_way c.in-At.is));
-      behind = behind_at c.pass_three.result (omega arith) c.pass_three.ensures.behind;
-    }
+pub returns-clause-answers : goal.returns-clause-answers
+returns-clause-answers c =
+    let f = planned_stop (lent c.args.plan.now) in
+    let j = c.args.j in
+    c.pass-4.ensures.answers
+    ∙ sym (stop_on c.args.row.now f 3 j (come c.args.way) refl refl c.in_ok-first.ensures.answers
+    ∙ stop_on c.args.row.now f 2 (j + 1) (come c.in_ok-first.first) refl (omega arith) c.in_ok-second.ensures.answers
+    ∙ stop_on c.args.row.now f 1 (j + 2) (come c.in_ok-second.second) refl (omega arith) c.in_ok-third.ensures.answers
+    ∙ leaps_one c.args.row.now f (j + 3) (come c.in_ok-third.third))

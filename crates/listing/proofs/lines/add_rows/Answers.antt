@@ -6,12 +6,11 @@ use Rattle.listing.proofs.Laws.{lines_start, lines_next}
 use Rattle.listing.proofs.lines.add_rows.Goals as goal
 
 pub loop-i-init : goal.loop-i-init
-loop-i-init c = (omega arith, lines_start c.args.text.now c.args.table.now c.args.at (omega (arith, c.requires.0)), refl)
+loop-i-init c = (lines_start c.args.text.now c.args.rows.now c.args.at (omega (arith, c.requires)), refl)
 
 pub loop-i-preserved : goal.loop-i-preserved
 loop-i-preserved c =
-    let (within, so_far, size) = c.loop-i.invariant in (
-      omega arith,
-      lines_next c.args.table.now c.loop-i.i so_far c.add_row-end.ensures (omega (arith, c.requires.0, size)),
+    let (so_far, size) = c.loop-i.invariant in (
+      lines_next c.args.rows.now c.loop-i.i so_far c.add_row-end.ensures (omega (arith, c.requires, size)),
       omega (arith, size),
     )

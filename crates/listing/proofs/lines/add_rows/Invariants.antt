@@ -1,6 +1,6 @@
--- Row by row. The measure is the number of rows left.
+-- Row by row.
 -- Assumes nothing.
-use Prim.Native.Nat.{◌*◌, ◌-◌, ◌≤◌}
+use Prim.Native.Nat.{◌*◌}
 use mathlib.Core.Path.{◌≡◌}
 use lib.ListN.{length}
 use Rattle.listing.specs.Lines.{RowLines, rows_of, AddsThe}
@@ -8,9 +8,4 @@ use Rattle.listing.proofs.lines.add_rows.Given as goal
 
 abbrev pub invariant-loop-i : goal.invariant-loop-i
 invariant-loop-i l =
-    (l.i ≤ l.n)
-    × AddsThe (RowLines (rows_of l.i l.fn.table)) (84 * l.i) l.fn.text l.text l.at l.end
-    × (length l.text ≡ length l.fn.text)
-
-abbrev pub decreases-loop-i : goal.decreases-loop-i
-decreases-loop-i l = l.n - l.i
+    AddsThe (RowLines (rows_of l.i l.fn.rows)) (84 * l.i) l.fn.text l.text l.at l.end × (length l.text ≡ length l.fn.text)

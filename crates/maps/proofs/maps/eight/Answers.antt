@@ -1,9 +1,9 @@
 -- Byte by byte.
 -- Assumes nothing.
+use mathlib.Core.Path.{◌∙◌}
 use native.Mathlib.Omega.{arith}
 use Rattle.maps.proofs.MapBits.{map_eight}
 use Rattle.maps.proofs.maps.eight.Goals as goal
 
 pub returns : goal.returns
-returns c =
-    omega (arith, map_eight c.args.s.now c.args.at, c.wide.ensures.0, c.wide-2.ensures.0, c.wide-3.ensures.0, c.wide-4.ensures.0, c.wide-5.ensures.0, c.wide-6.ensures.0, c.wide-7.ensures.0, c.wide-8.ensures.0)
+returns c = c.from_be_bytes.ensures ∙ map_eight c.args.s.now _ c.args.at _ (omega arith) c.copy_from_slice.ensures.after

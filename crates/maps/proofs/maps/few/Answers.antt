@@ -1,36 +1,29 @@
--- The bytes before i stand at the top.
+-- The bytes before p stand at the top.
 -- Assumes nothing.
-use mathlib.Core.Path.{◌∙◌, refl, sym}
+use Prim.Native.Nat.{◌-◌}
+use mathlib.Core.Path.{◌≡◌, ◌∙◌, refl}
 use native.Mathlib.Omega.{arith}
 use lib.ListN.{drop, length-drop}
-use lib.Seq.{get_or-drop}
 use Rattle.maps.specs.Maps.{top_bytes, map_bits}
-use Rattle.maps.proofs.MapBits.{map_room, map_fits, map_next, map_end}
-use borrow.Author.Rules.{rules}
+use Rattle.maps.proofs.MapBits.{map_next, map_room, map_end}
 use Rattle.maps.proofs.maps.few.Goals as goal
 
 pub loop-p-init : goal.loop-p-init
 unfolding top_bytes
-loop-p-init c = (search rules, search rules, refl, search rules)
-
-pub overflow_mul-bits-in-loop-p : goal.overflow_mul-bits-in-loop-p
-overflow_mul-bits-in-loop-p c =
-    omega (arith, map_fits c.loop-p.bits c.loop-p.i c.wide.result c.loop-p.invariant.0 c.loop-p.invariant.3 c.wide.ensures.1)
+loop-p-init c =
+    let z : c.args.at - c.args.at ≡ 0 = omega arith in
+    rw z refl
 
 pub overflow_add-bits : goal.overflow_add-bits
 overflow_add-bits c =
-    omega (arith, map_fits c.loop-p.bits c.loop-p.i c.wide.result c.loop-p.invariant.0 c.loop-p.invariant.3 c.wide.ensures.1)
+    let next = map_next c.args.s.now c.args.at c.loop-p.p _ _ (λ i. omega (arith, c.type_inv.s i)) c.loop-p.auto.p (omega arith) c.loop-p.invariant c.from.ensures in
+    omega (arith, next, map_room c.args.s.now c.args.at c.loop-p.p (λ i. omega (arith, c.type_inv.s i)) c.loop-p.auto.p (omega arith))
 
 pub loop-p-preserved : goal.loop-p-preserved
-loop-p-preserved c = (
-  omega (arith, c.requires, c.loop-p-test.true, c.loop-p.invariant.1),
-  omega (arith, c.loop-p.invariant.1),
-  map_next (drop c.args.at c.args.s.now) c.loop-p.bits c.loop-p.i c.wide.result c.loop-p.invariant.0 c.loop-p.invariant.2
-      (c.wide.ensures.0 ∙ rw c.loop-p.invariant.1 (sym (get_or-drop c.args.at c.args.s.now c.loop-p.i 0))),
-  map_room c.loop-p.bits c.loop-p.i c.wide.result c.loop-p.invariant.0 c.loop-p.invariant.3 c.wide.ensures.1,
-)
+loop-p-preserved c =
+    map_next c.args.s.now c.args.at c.loop-p.p _ _ (λ i. omega (arith, c.type_inv.s i)) c.loop-p.auto.p (omega arith) c.loop-p.invariant c.from.ensures
 
 pub returns : goal.returns
 unfolding map_bits
 returns c =
-    c.loop-p.invariant.2 ∙ map_end (drop c.args.at c.args.s.now) c.loop-p.i c.loop-p.invariant.0 (simp length-drop (omega (arith, c.loop-p-test.false)))
+    c.loop-p.invariant ∙ map_end (drop c.args.at c.args.s.now) _ (simp length-drop (omega arith)) (simp length-drop (omega arith))

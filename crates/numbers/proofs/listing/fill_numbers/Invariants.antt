@@ -1,13 +1,8 @@
--- The table has as many numbers as the loop has read.
+-- The table has as many numbers as its slots that were filled, and the others are left.
 -- Assumes nothing.
-use Prim.Native.Nat.{◌≤◌, ◌-◌}
-use mathlib.Core.Path.{◌≡◌}
-use lib.ListN.{length}
-use Rattle.numbers.proofs.Listed.{Filling}
+use Rattle.numbers.specs.Listing.{numbers_left}
+use Rattle.numbers.proofs.Walking.{Filled}
 use Rattle.numbers.proofs.listing.fill_numbers.Given as goal
 
-abbrev pub invariant-loop-at : goal.invariant-loop-at
-invariant-loop-at l = (l.at ≤ length l.file) × (length l.table ≡ length l.initial.table) × Filling l.file l.initial.table l.table l.at l.n
-
-abbrev pub decreases-loop-at : goal.decreases-loop-at
-decreases-loop-at l = length l.file - l.at
+abbrev pub invariant-loop-slot : goal.invariant-loop-slot
+invariant-loop-slot l = Filled (numbers_left l.fn.file 0) l.initial.table l.table (numbers_left l.numbers.file.now l.numbers.at) l.slot-index

@@ -7,20 +7,20 @@ use Rattle.numbers.proofs.Coding.{coding_start, coding_next, coded_part, coded_w
 use native.Mathlib.Omega.{arith}
 use Rattle.numbers.proofs.writer.code_numbers.Goals as goal
 
-pub loop-i-init : goal.loop-i-init
-loop-i-init c = coding_start c.args.numbers.now c.args.buffer.now
+pub loop-n-init : goal.loop-n-init
+loop-n-init c = coding_start c.args.numbers.now c.args.buffer.now
 
 pub returns-then-lacks : goal.returns-then-lacks
-returns-then-lacks c = coded_part _ _ _ _ _ c.loop-i.invariant (lacked_lt (length c.loop-i.buffer) (c.loop-i.at + 3) c.lacks.ensures c.if-lacks.true)
+returns-then-lacks c = coded_part _ _ _ _ _ c.loop-n.invariant (lacked_lt (length c.loop-n.buffer) (c.loop-n.at + 3) c.lacks.ensures c.if-lacks.true)
 
 pub overflow_add-at : goal.overflow_add-at
 overflow_add-at c =
-    omega (arith, enough_le (length c.loop-i.buffer) (c.loop-i.at + 3) c.lacks.ensures c.if-lacks.false, (coded_bytewise (get_or c.args.numbers.now c.loop-i.i 0)).short, c.put_number-at.ensures.0)
+    omega (arith, enough_le (length c.loop-n.buffer) (c.loop-n.at + 3) c.lacks.ensures c.if-lacks.false, (coded_bytewise (get_or c.args.numbers.now c.loop-n.n-index 0)).short, c.put_number-at.ensures.0)
 
-pub loop-i-preserved : goal.loop-i-preserved
-loop-i-preserved c =
-    coding_next _ _ _ _ _ c.loop-i.invariant _ _ c.loop-i-test.true
-    (enough_le (length c.loop-i.buffer) (c.loop-i.at + 3) c.lacks.ensures c.if-lacks.false) c.put_number-at.ensures.0 c.put_number-at.ensures.1
+pub loop-n-preserved : goal.loop-n-preserved
+loop-n-preserved c =
+    coding_next _ _ _ _ _ c.loop-n.invariant _ _ c.loop-n-test.true
+    (enough_le (length c.loop-n.buffer) (c.loop-n.at + 3) c.lacks.ensures c.if-lacks.false) c.put_number-at.ensures.0 c.put_number-at.ensures.1
 
 pub returns : goal.returns
-returns c = coded_whole _ _ _ _ _ c.loop-i.invariant c.loop-i-test.false
+returns c = coded_whole _ _ _ _ _ c.loop-n.invariant c.loop-n-test.false

@@ -2,20 +2,15 @@
 -- Assumes nothing.
 use Prim.Native.Nat.{◌≤◌}
 use mathlib.Core.List.{[], ◌∷◌, ◌++◌}
-use mathlib.Core.Path.{◌≡◌, refl, sym, ◌∙◌}
+use mathlib.Core.Path.{◌≡◌, refl, ◌∙◌}
 use lib.ListN.{length}
 use Rattle.wire.specs.Read.{Bytes}
 use Rattle.wire.specs.Integers.{int_bytes}
 use Rattle.wire.specs.Output.{put}
-use Rattle.wire.proofs.Laws.{put_not, put_next}
+use Rattle.wire.proofs.Laws.{put_next}
 use Rattle.options.specs.Options.{token, guid, head_bytes}
-use Rattle.options.proofs.Laws.{length_head}
 use native.Mathlib.Omega.{arith}
 use Rattle.options.proofs.options.put_head.Goals as goal
-
-pub returns-then-out-lt20 : goal.returns-then-out-lt20
-returns-then-out-lt20 c =
-    sym (put_not c.args.out.now 0 (head_bytes c.args.size) (rw (length_head c.args.size) c.if-out-lt20.true))
 
 pub returns : goal.returns
 unfolding head_bytes int_bytes
@@ -23,8 +18,8 @@ returns c =
     let o : Bytes = c.args.out.now in
     let room : 20 ≤ length o = c.if-out-lt20.false in
     let w2 : Bytes = token ++ int_bytes 2 c.args.size in
-    let e2 : c.copy_into-2.new.out ≡ put o 0 w2 =
-    c.copy_into-2.ensures ∙ put_next o c.copy_into.new.out token (int_bytes 2 c.args.size) 1 c.copy_into.ensures refl (omega arith) in
-    let e3 : c.copy_into-3.new.out ≡ put o 0 (w2 ++ guid) =
-    c.copy_into-3.ensures ∙ put_next o c.copy_into-2.new.out w2 guid 3 e2 refl (omega arith) in
-    c.copy_into-4.ensures ∙ put_next o c.copy_into-3.new.out (w2 ++ guid) (0x01 ∷ []) 19 e3 refl room
+    let e2 : c.put_u16.new.out ≡ put o 0 w2 =
+    c.put_u16.ensures ∙ put_next o c.copy_into.new.out token (int_bytes 2 c.args.size) 1 c.copy_into.ensures refl (omega arith) in
+    let e3 : c.copy_into-2.new.out ≡ put o 0 (w2 ++ guid) =
+    c.copy_into-2.ensures ∙ put_next o c.put_u16.new.out w2 guid 3 e2 refl (omega arith) in
+    c.copy_into-3.ensures ∙ put_next o c.copy_into-2.new.out (w2 ++ guid) (0x01 ∷ []) 19 e3 refl room

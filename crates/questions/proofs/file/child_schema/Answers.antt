@@ -1,37 +1,36 @@
 -- The number that was found, or none.
 -- Assumes nothing.
 use Prim.Native.Nat.{ℕ}
-use mathlib.Core.Path.{◌≡◌, sym, ap, ◌∙◌}
-use mathlib.Core.List.{List}
-use lib.ListN.{replicate, length-replicate}
-use Rattle.wire.specs.declared.error.Error.{Error}
-use Rattle.wire.specs.Read.{ok, refused}
-use Rattle.schema.specs.declared.reader.PlaceRead.{PlaceRead}
-use Rattle.tree.specs.Filling.{fill_file}
-use Rattle.schema.specs.Told.{placed, told_place}
+use mathlib.Core.Path.{◌≡◌, refl, sym, ap, ◌∙◌}
+use lib.ListN.{replicate}
+use Rattle.std.specs.Prelude.{Option, Some, None}
+use Rattle.std.specs.Option.{ok_or}
+use Rattle.std.proofs.lemmas.Result.{err_from_is_err_and}
+use Rattle.wire.specs.declared.error.ErrorKind.TheVariants.{Missing}
+use Rattle.wire.specs.declared.error.Input.TheVariants.{ChildId}
+use Rattle.wire.specs.Read.{told}
 use Rattle.tree.proofs.Filled.{schemas_refused, schemas_read, some_schema}
-use Rattle.questions.proofs.Questions.{child_refused, child_none_of, child_some_of}
+use Rattle.schema.specs.Children.{told_child}
+use Rattle.schema.proofs.Named.{named_read, named_refused}
+use Rattle.questions.specs.Questions.{found_child}
+use Rattle.questions.proofs.Questions.{child_refused, child_read}
 use Rattle.questions.proofs.file.child_schema.Goals as goal
 
-pub returns-then-number-eq0 : goal.returns-then-number-eq0
-returns-then-number-eq0 c =
-    let exit : List ℕ = c.read_file.new.table in
-    let h : fill_file c.args.file.now (replicate 512 0) ≡ ok (placed c.in-Read.p exit) = sym c.read_file.ensures ∙ ap (λ (r : PlaceRead). told_place r exit) c.in-Read.is in
-    let s = schemas_read c.args.file.now (replicate 512 0) (λ i. (c.type_inv.file i).fits) (length-replicate {A = ℕ} 512 0) _ h in
-    let k = some_schema c.args.file.now (replicate 512 0) (λ i. (c.type_inv.file i).fits) (length-replicate {A = ℕ} 512 0) _ h in
-    ap refused c.at_start.ensures ∙ sym (child_none_of c.args.file.now c.args.id _ s (sym (c.child_number-number.ensures k.0 k.1) ∙ c.if-number-eq0.true))
+found : (o : Option ℕ) → told (ok_or o (record { kind = Missing; offset = 0; input = ChildId })) ≡ found_child (told_child o)
+found None = refl
+found (Some n) = refl
 
-pub returns-in-Refused : goal.returns-in-Refused
-returns-in-Refused c =
-    let exit : List ℕ = c.read_file.new.table in
-    let h : fill_file c.args.file.now (replicate 512 0) ≡ refused c.in-Refused.e = sym c.read_file.ensures ∙ ap (λ (r : PlaceRead). told_place r exit) c.in-Refused.is in
-    ap (λ (x : Error). refused x) c.about.ensures
-    ∙ sym (child_refused c.args.file.now c.args.id c.in-Refused.e (schemas_refused c.args.file.now (replicate 512 0) (λ i. (c.type_inv.file i).fits) (length-replicate {A = ℕ} 512 0) c.in-Refused.e h))
+pub returns-in_err-p : goal.returns-in_err-p
+returns-in_err-p c =
+    let p = err_from_is_err_and c.from_residual.result c.from_residual.ensures.1 in
+    let (d, f, g) = named_refused _ c.read_file.result c.about.result c.read_file.new.table c.read_file.ensures c.about.ensures {A = ℕ} c.in_err-p.was in
+    rw (p.1, p.2, g) (sym (child_refused c.args.file.now c.args.id d (schemas_refused c.args.file.now (replicate 512 0) (λ i. (c.type_inv.file i).fits) refl d f)))
 
-pub returns-else-number-eq0 : goal.returns-else-number-eq0
-returns-else-number-eq0 c =
-    let exit : List ℕ = c.read_file.new.table in
-    let h : fill_file c.args.file.now (replicate 512 0) ≡ ok (placed c.in-Read.p exit) = sym c.read_file.ensures ∙ ap (λ (r : PlaceRead). told_place r exit) c.in-Read.is in
-    let s = schemas_read c.args.file.now (replicate 512 0) (λ i. (c.type_inv.file i).fits) (length-replicate {A = ℕ} 512 0) _ h in
-    let k = some_schema c.args.file.now (replicate 512 0) (λ i. (c.type_inv.file i).fits) (length-replicate {A = ℕ} 512 0) _ h in
-    sym (child_some_of c.args.file.now c.args.id _ _ s (c.child_number-number.ensures k.0 k.1) c.if-number-eq0.false)
+pub returns : goal.returns
+returns c =
+    let h = named_read _ c.read_file.result c.about.result c.read_file.new.table c.read_file.ensures c.about.ensures c.in_ok-p.was in
+    let k = some_schema c.args.file.now (replicate 512 0) (λ i. (c.type_inv.file i).fits) refl _ h in
+    rw (c.ok_or.ensures.value, c.at_start.ensures)
+    (found c.child_number.result
+    ∙ ap found_child (rw c.from.ensures at (c.child_number.ensures k.0 k.1))
+    ∙ sym (child_read c.args.file.now c.args.id _ (schemas_read c.args.file.now (replicate 512 0) (λ i. (c.type_inv.file i).fits) refl _ h)))

@@ -1,22 +1,22 @@
 -- The length of the columns that were found.
 -- Assumes nothing.
 use Prim.Native.Nat.{ℕ}
-use mathlib.Core.List.{List}
-use Rattle.wire.specs.Read.{ok}
 use mathlib.Core.Path.{sym, ap, ◌∙◌}
-use Rattle.questions.specs.declared.file.Opened.{Opened}
-use Rattle.questions.specs.Questions.{told_opened, column_count_of}
+use Rattle.std.proofs.lemmas.Result.{err_from_is_err_and}
+use Rattle.wire.specs.Read.{ok}
+use Rattle.questions.specs.Questions.{column_count_of}
 use Rattle.questions.proofs.Questions.{select_refused, select_found}
 use Rattle.tree.proofs.TableSays.{entries_length}
 use Rattle.questions.proofs.file.column_count.Goals as goal
 
-pub returns-in-Refused : goal.returns-in-Refused
+pub returns-in_err-block : goal.returns-in_err-block
 unfolding column_count_of
-returns-in-Refused c = sym (select_refused c.args.file.now c.args.number _ c.in-Refused.e (sym c.open_schema.ensures.answers ∙ ap (λ (r : Opened). told_opened r c.open_schema.new.table) c.in-Refused.is))
+returns-in_err-block c =
+    let p = err_from_is_err_and c.from_residual.result c.from_residual.ensures.1 in
+    rw (p.1, p.2) (sym (select_refused c.args.file.now c.args.number _ _ (sym c.in_err-block.ensures.answers)))
 
-pub returns-in-Block : goal.returns-in-Block
+pub returns : goal.returns
 unfolding column_count_of
-returns-in-Block c =
-    let exit : List ℕ = c.open_schema.new.table in
-    sym (select_found c.args.file.now c.args.number _ _ _ (sym c.open_schema.ensures.answers ∙ ap (λ (r : Opened). told_opened r exit) c.in-Block.is)
-    ∙ ap (λ (n : ℕ). ok n) (entries_length c.in-Block.start c.in-Block.count exit))
+returns c =
+    sym (select_found c.args.file.now c.args.number _ _ _ (sym c.in_ok-block.ensures.answers)
+    ∙ ap (λ (n : ℕ). ok n) (entries_length c.in_ok-block.block.start c.in_ok-block.block.count c.open_schema.new.table))

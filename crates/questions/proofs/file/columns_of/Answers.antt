@@ -1,28 +1,22 @@
 -- The columns in the slots that were found are the schema's.
 -- Assumes nothing.
-use Prim.Native.Nat.{ℕ, min}
-use mathlib.Core.Path.{◌≡◌, refl, sym, ap, ◌∙◌}
-use mathlib.Core.List.{List}
+use Prim.Native.Nat.{min}
+use mathlib.Core.Path.{◌≡◌, sym, ap, ◌∙◌}
 use native.Mathlib.Omega.{arith}
-use Rattle.column.specs.Layout.{padded, layout}
-use Rattle.tree.specs.Table.{entries_in}
-use Rattle.questions.specs.declared.file.Opened.{Opened}
-use Rattle.questions.specs.Questions.{told_opened}
-use Rattle.questions.proofs.Layouts.{opened_slots, columned_refused, columned_found}
+use Rattle.std.proofs.lemmas.Result.{err_from_is_err_and}
+use Rattle.column.specs.declared.columns.Columns.{Columns}
+use Rattle.wire.specs.Read.{ok}
+use Rattle.questions.proofs.Layouts.{columns_refused, columns_found}
 use Rattle.questions.proofs.file.columns_of.Goals as goal
 
-pub returns-in-Refused : goal.returns-in-Refused
-unfolding layout padded
-returns-in-Refused c = columned_refused c.args.file.now c.args.number c.in-Refused.e (sym c.open_schema.ensures.answers ∙ ap (λ (r : Opened). told_opened r c.open_schema.new.table) c.in-Refused.is)
+pub returns-in_err-block : goal.returns-in_err-block
+returns-in_err-block c =
+    let p = err_from_is_err_and c.from_residual.result c.from_residual.ensures.1 in
+    rw (p.1, p.2) (sym (columns_refused c.args.file.now c.args.number _ (sym c.in_err-block.ensures.answers)))
 
-pub returns-in-Block : goal.returns-in-Block
-returns-in-Block c =
-    let exit : List ℕ = c.open_schema.new.table in
-    let start : ℕ = c.in-Block.start in
-    let count : ℕ = c.in-Block.count in
-    let (few, inside) = opened_slots c.in-Block.is c.open_schema.ensures.slots in
-    let first : min start 256 ≡ start = omega (arith, inside) in
-    let n : min count 64 ≡ count = omega (arith, few) in
-    columned_found c.args.file.now c.args.number _ (entries_in start count exit)
-    (sym c.open_schema.ensures.answers ∙ ap (λ (r : Opened). told_opened r exit) c.in-Block.is)
-    (c.columns_in-columns.ensures ∙ rw (first, n) refl)
+pub returns : goal.returns
+returns c =
+    let first : min c.in_ok-block.block.start 256 ≡ c.in_ok-block.block.start = omega (arith, c.in_ok-block.ensures.slots.inside) in
+    let n : min c.in_ok-block.block.count 64 ≡ c.in_ok-block.block.count = omega (arith, c.in_ok-block.ensures.slots.few) in
+    ap (λ (x : Columns). ok x) (rw (first, n) at c.columns_in.ensures)
+    ∙ sym (columns_found c.args.file.now c.args.number _ _ (sym c.in_ok-block.ensures.answers))

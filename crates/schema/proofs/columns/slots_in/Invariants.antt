@@ -1,11 +1,7 @@
 -- Each slot takes the column's number.
 -- Assumes nothing.
-use Prim.Native.Nat.{◌-◌, ◌≤◌}
 use Rattle.schema.proofs.Slotted.{Copying}
 use Rattle.schema.proofs.columns.slots_in.Given as goal
 
 abbrev pub invariant-loop-i : goal.invariant-loop-i
-invariant-loop-i l = Copying l.table l.first l.slots l.i × (l.i ≤ l.n)
-
-abbrev pub decreases-loop-i : goal.decreases-loop-i
-decreases-loop-i l = l.n - l.i
+invariant-loop-i l = Copying l.table l.first l.slots l.i

@@ -1,20 +1,19 @@
--- The loop goes on with the ids that are left.
+-- The ids of the schemas, one after the other.
 -- Assumes nothing.
-use mathlib.Core.Path.{refl, sym, ◌∙◌}
-use Rattle.tree.specs.Table.{ids_in}
-use Rattle.schema.proofs.Reading.{seen_end, seen_hit, seen_next}
+use Prim.Native.Nat.{ℕ, ◌-◌}
+use mathlib.Core.Path.{refl, ◌∙◌}
+use lib.ListN.{get_or}
 use borrow.Author.Rules.{rules}
+use lib.Dec.{eqb}
+use Rattle.std.proofs.lemmas.Iterator.{YieldsList-from_range}
+use Rattle.std.proofs.lemmas.Iterator.Search.{any_from_yields_List}
+use Rattle.tree.specs.Table.{id_in, schema_slot}
+use Rattle.schema.proofs.Reading.{seen_any}
 use Rattle.schema.proofs.reader.is_seen.Goals as goal
 
-pub loop-i-init : goal.loop-i-init
-unfolding ids_in
-loop-i-init c = (search rules, refl)
-
-pub returns-then-table-i : goal.returns-then-table-i
-returns-then-table-i c = sym (c.loop-i.invariant.1 ∙ seen_hit _ _ _ _ c.loop-i-test.true c.if-table-i.true)
-
-pub loop-i-preserved : goal.loop-i-preserved
-loop-i-preserved c = (search rules, c.loop-i.invariant.1 ∙ seen_next _ _ _ _ c.loop-i-test.true c.if-table-i.false)
-
 pub returns : goal.returns
-returns c = sym (c.loop-i.invariant.1 ∙ seen_end _ _ _ _ c.loop-i-test.false)
+returns c =
+    any_from_yields_List (λ (i : ℕ). eqb c.args.id (id_in (get_or c.args.table.now (schema_slot i) 0))) _ _ c.any.result c.any.ensures.ran
+    (YieldsList-from_range 1 c.args.schemas (c.args.schemas - 1) refl refl)
+    (λ x b q k. search rules)
+    ∙ seen_any c.args.table.now c.args.id c.args.schemas

@@ -1,12 +1,8 @@
 -- One slot after the other.
 -- Assumes nothing.
-use Prim.Native.Nat.{◌-◌, ◌≤◌}
 use mathlib.Core.Path.{◌≡◌}
 use Rattle.schema.specs.Runs.{laid_from}
 use Rattle.schema.proofs.runs.lay.Given as goal
 
 abbrev pub invariant-loop-i : goal.invariant-loop-i
-invariant-loop-i l = (l.table ≡ laid_from l.slot l.i l.slots l.initial.table) × (l.i ≤ l.count)
-
-abbrev pub decreases-loop-i : goal.decreases-loop-i
-decreases-loop-i l = l.count - l.i
+invariant-loop-i l = l.table ≡ laid_from l.slot l.i l.slots l.initial.table

@@ -11,10 +11,10 @@ loop-count-init c = run_start c.args.file.now c.args.from c.args.most _ c.requir
 
 pub overflow_cast-slots : goal.overflow_cast-slots
 overflow_cast-slots c =
-    let reads : Slotted (head_at c.args.file.now c.loop-count.at) c.in-Column.slot c.in-Column.end = rw c.in-Column.is at c.plain_at.ensures in
+    let reads : Slotted (head_at c.args.file.now c.loop-count.at) c.in-Some.field-0.slot c.in-Some.field-0.end = c.in-Some.ensures in
     omega (arith, reads.small)
 
 pub loop-count-preserved : goal.loop-count-preserved
 loop-count-preserved c =
-    let reads : Slotted (head_at c.args.file.now c.loop-count.at) c.in-Column.slot c.in-Column.end = rw c.in-Column.is at c.plain_at.ensures in
+    let reads : Slotted (head_at c.args.file.now c.loop-count.at) c.in-Some.field-0.slot c.in-Some.field-0.end = c.in-Some.ensures in
     run_next c.args.file.now c.args.from c.args.most _ _ c.requires.1 c.loop-count.invariant c.loop-count-test.true reads

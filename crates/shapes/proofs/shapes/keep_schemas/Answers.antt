@@ -1,41 +1,29 @@
--- The loop goes on with one more schema.
+-- The loop goes on with one more schema, which is lent its columns.
 -- Assumes nothing.
-use Prim.Native.Nat.{ℕ}
+use mathlib.Core.Path.{sym, ◌∙◌}
+use mathlib.Core.Bool.{true≢false}
 use native.Mathlib.Omega.{arith}
-use mathlib.Core.Path.{◌≡◌, refl}
-use Rattle.shapes.proofs.ShapesMade.{keep_start, keep_next, keep_room, keep_end}
+use lib.ListN.{get_or}
+use Rattle.tree.specs.Table.{schema_slot, start_in, count_in}
+use Rattle.shapes.proofs.Slots.{slots_lent}
+use Rattle.shapes.proofs.ShapesMade.{keep_start, keep_next, keep_room}
 use Rattle.shapes.proofs.shapes.keep_schemas.Goals as goal
 
-pub returns-then-schemas-gt-SCHEMAS : goal.returns-then-schemas-gt-SCHEMAS
-returns-then-schemas-gt-SCHEMAS c = record { long = refl; shaped = λ s e. absurd (omega (arith, s.all, c.if-schemas-gt-SCHEMAS.true)) }
-
 pub loop-k-init : goal.loop-k-init
-loop-k-init c =
-    keep_start c.args.slots.now c.args.schemas c.args.shapes.now (omega (arith, c.if-schemas-gt-SCHEMAS.false))
+loop-k-init c = keep_start c.args.slots.now c.args.schemas c.args.shapes.now c.if-schemas-gt-SCHEMAS.false
 
-pub has_room-requires : goal.has_room-requires
-has_room-requires c =
-    (omega arith, omega arith, c.loop-k.invariant.near)
-
-pub add_schema-requires : goal.add_schema-requires
-add_schema-requires c =
-    let room = c.has_room.ensures.0 c.if-has_room.true in
-    (omega (arith, c.loop-k.invariant.room, c.loop-k-test.true), record { few = room.few; inside = room.inside; words = omega (arith, room.words, c.lesser-room.ensures) }, omega (arith, room.words, c.lesser-room.ensures, c.loop-k.invariant.long))
-
-pub loop-k-preserved : goal.loop-k-preserved
-loop-k-preserved c =
-    keep_next c.loop-k.invariant c.loop-k-test.true (c.has_room.ensures.0 c.if-has_room.true) (omega (arith, c.lesser-room.ensures)) c.add_schema.ensures
-
-pub returns-else-has_room : goal.returns-else-has_room
-returns-else-has_room c =
+pub returns-then-not-has_room : goal.returns-then-not-has_room
+returns-then-not-has_room c =
     record {
       long = c.loop-k.invariant.long;
       shaped = λ s e.
-          let yes = c.has_room.ensures.1 (keep_room c.loop-k.invariant c.loop-k-test.true c.lesser-room.ensures s e) in
-          let z : ◌≡◌ {A = ℕ} 0 1 = cc in
-          absurd (omega arith);
+          let yes = c.has_room.ensures.1 (keep_room c.loop-k.invariant c.loop-k-test.true c.min-room.ensures s e) in
+          absurd (true≢false (sym yes ∙ c.if-not-has_room.true));
     }
 
-pub returns : goal.returns
-returns c =
-    keep_end c.loop-k.invariant c.loop-k-test.false
+pub loop-k-preserved : goal.loop-k-preserved
+loop-k-preserved c =
+    let room = c.has_room.ensures.0 c.if-not-has_room.false in
+    let slot = get_or c.args.slots.now (schema_slot c.loop-k.k) 0 in
+    keep_next c.loop-k.invariant c.loop-k-test.true room (omega (arith, c.min-room.ensures))
+    (rw (slots_lent c.args.slots.now (start_in slot) (count_in slot) (omega (arith, room.inside))) at c.add_schema.ensures)
