@@ -239,6 +239,14 @@ module _ (most : ℕ) (even : Bool) (n : ℕ) where
           ap (λ (k : ℕ). eqb k 0) z ∙ told (eqb (n % 2) 0)
       go false = let z : bool_byte false * (n % 2) ≡ 0 = omega arith in ap (λ (k : ℕ). eqb k 0) z
 
+  -- by the flag as a number
+  pub flag_odd : bool_byte even * (n % 2) ≤ 1
+  flag_odd = go even
+    where
+      go : (e : Bool) → bool_byte e * (n % 2) ≤ 1
+      go true = omega arith
+      go false = omega arith
+
   -- what is allowed is no longer than the greatest length
   pub rule_most : length_error_of most even n ≡ 0 → n ≤ most
   rule_most h = by_contra _ _ (λ l. omega (arith, rule_over l))

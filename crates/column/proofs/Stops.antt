@@ -55,6 +55,14 @@ module _ (c : Column) where
   unfolding is_stop
   stop_chapter e = rw e
 
+  pub stop_nullable : is_chapter c ≡ false → is_nullable c ≡ true → is_stop c ≡ true
+  unfolding is_stop
+  stop_nullable e n = rw (e, n)
+
+  pub stop_plain : is_chapter c ≡ false → is_nullable c ≡ false → is_stop c ≡ is_variable c
+  unfolding is_stop
+  stop_plain e n = rw (e, n)
+
   -- no stop and no chapter: not nullable, of fixed width
   pub no_stop_lem : is_stop c ≡ false → is_chapter c ≡ false → (is_nullable c ≡ false) × (is_variable c ≡ false)
   unfolding is_stop

@@ -204,7 +204,7 @@ exactly_constants s at (v ∷ x) inside = constants_next s at v x inside (λ nex
 -- The header.
 
 -- the first three fields of a short header: whichever lacks, the error is the same
-fields_short : (s : Bytes) → length s ≤ 7 → header_fields s ≡ bad 1 (length s) input.Single
+pub fields_short : (s : Bytes) → length s ≤ 7 → header_fields s ≡ bad 1 (length s) input.Single
 unfolding header_fields
 fields_short s h = go (leb (length s) 5) (leb (length s) 6) refl refl
   where

@@ -20,7 +20,7 @@ module _ (b : Bytes) (code at : ℕ) (k : get_or b at 0 ≤ 1) where
   flags_usual : at < length b → range_at 0 most_flags b at ≡ ok (found (get_or b at 0) (at + 1))
   flags_usual h = range_within 0 most_flags b at (found (get_or b at 0) (at + 1)) (number_one b at h (omega (arith, k))) (omega arith) k
 
-  fixed_usual : at + 1 ≤ length b → fixed_head b code at ≡ ok (field_head code (get_or b at 0) 0 (at + 1))
+  pub fixed_usual : at + 1 ≤ length b → fixed_head b code at ≡ ok (field_head code (get_or b at 0) 0 (at + 1))
   unfolding fixed_head
   fixed_usual h = rw (flags_usual (omega (arith, h))) refl
 
@@ -30,14 +30,14 @@ module _ (b : Bytes) (code at : ℕ) (k : get_or b at 0 ≤ 1) where
     variable_usual m p e l u = rw (flags_usual (omega (arith, h)), range_within 1 most_maximum b (at + 1) (found m p) e l u) refl
 
     -- a maximum of one byte, and of two
-    variable_one :
+    pub variable_one :
         1 ≤ get_or b (at + 1) 0 → get_or b (at + 1) 0 < 0x80 → variable_head b code at ≡ ok (field_head code (get_or b at 0) (get_or b (at + 1) 0) (at + 2))
     variable_one l u =
         let z : at + 1 + 1 ≡ at + 2 = omega arith in
         variable_usual (get_or b (at + 1) 0) (at + 2)
         (number_one b (at + 1) (omega (arith, h)) u ∙ ap (λ (p : ℕ). ok (found (get_or b (at + 1) 0) p)) z) l (omega (arith, u))
 
-    variable_two :
+    pub variable_two :
         0x80 ≤ get_or b (at + 1) 0 → get_or b (at + 1) 0 < 0x100 → 1 ≤ get_or b (at + 2) 0 → get_or b (at + 2) 0 < 0x80 →
         variable_head b code at ≡ ok (field_head code (get_or b at 0) ((get_or b (at + 1) 0 - 0x80) + 0x80 * get_or b (at + 2) 0) (at + 3))
     variable_two m n l u =

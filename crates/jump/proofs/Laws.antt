@@ -33,7 +33,7 @@ use Rattle.plan.specs.Packed.{before_in}
 use Rattle.plan.specs.Plans.{planned_word, planned_column, planned_first}
 use Rattle.jump.specs.declared.look.Way.{Way}
 use Rattle.jump.specs.Jumps.{tabled, starts_before, stops_gone, by_bit, unset_from, unset}
-use Rattle.jump.specs.Lent.{Near, BitsOf, over}
+use Rattle.jump.specs.Lent.{Near, BitsOf, over, Behind}
 
 -- The first bits of a row as a number.
 
@@ -126,6 +126,17 @@ module _
 pub near_more : (r : Result Way Error) (m n prefixes : ℕ) → m ≤ n → Near m prefixes r → Near n prefixes r
 near_more (Ok w) m n prefixes h (a, b) = (omega arith, b)
 near_more (Err e) m n prefixes h a = tt
+
+-- a step more
+pub near_behind :
+    (r : Result Way Error) (base length prefixes j : ℕ) → base + length ≤ 4295032836 * j → prefixes ≤ j → Near (base + length + 4295032836) prefixes r →
+    Behind (j + 1) r
+near_behind (Ok w) base length prefixes j h i (m, n) = record { near = omega arith; few = omega arith }
+near_behind (Err e) base length prefixes j h i m = tt
+
+pub behind_at : (r : Result Way Error) {i j : ℕ} → i ≡ j → Behind i r → Behind j r
+behind_at (Ok w) e b = record { near = omega (arith, e, b.near); few = omega (arith, e, b.few) }
+behind_at (Err x) e b = tt
 
 -- a size, or nothing
 pub times_one : (w o : ℕ) → o ≤ 1 → w * o ≤ w

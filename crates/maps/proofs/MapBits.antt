@@ -2,7 +2,7 @@
 -- Assumes nothing.
 use Prim.Native.Nat.{ℕ, zero, suc, ◌+◌, ◌*◌, ◌-◌, ◌/◌, ◌%◌, ◌^◌, ◌<◌, ◌≤◌, min, max}
 use mathlib.Core.Path.{◌≡◌, refl, sym, ap, ◌∙◌}
-use native.Mathlib.Nat.{mod-lt, zero-div, zero-lt-suc, add-zero, add-suc}
+use native.Mathlib.Nat.{mod-lt, zero-div, zero-lt-suc, add-zero, add-suc, pow-suc, one-le-pow, mul-le-mul_right}
 use native.Mathlib.Omega.{arith}
 use lib.ListN.{length, get_or, take, drop, get_or-eq_default}
 use Rattle.std.proofs.lemmas.List.{get_or-take}
@@ -13,6 +13,7 @@ use lib.Bits.{bit_and, bit_or, bit_xor, and_step, or_step, xor_add_and, and_shr,
 use Rattle.wire.specs.Bits.{bit_at}
 use Rattle.wire.specs.Read.{Bytes, AreBytes}
 use Rattle.maps.specs.Maps.{top_bytes, map_bits, top_bit}
+use native.Mathlib.Numerals.{add-one}
 
 pub bit_small : (bits i : ℕ) → top_bit bits i ≤ 1
 unfolding top_bit
@@ -117,9 +118,22 @@ map_eight s bytes at k n e =
     let g : (i : ℕ) → i < 8 → get_or bytes i 0 ≡ get_or (drop at s) i 0 = λ i h. rw (e, n) (get_or-take 8 (drop at s) i 0 h) in
     omega (arith, g 0 (omega arith), g 1 (omega arith), g 2 (omega arith), g 3 (omega arith), g 4 (omega arith), g 5 (omega arith), g 6 (omega arith), g 7 (omega arith))
 
+-- as a sum
+pub map_eight_sum :
+    (s : Bytes) (at : ℕ) →
+    map_bits s at
+    ≡ ((((((get_or s at 0 * 256 + get_or s (at + 1) 0) * 256 + get_or s (at + 2) 0) * 256 + get_or s (at + 3) 0) * 256 + get_or s (at + 4) 0) * 256
+    + get_or s (at + 5) 0) * 256 + get_or s (at + 6) 0) * 256 + get_or s (at + 7) 0
+unfolding map_bits top_bytes
+map_eight_sum s at = simp (get_or-drop, add-zero) (omega arith)
+
 -- the weight of byte i
-shifted : (b : ℕ) → b < 256 → (i : ℕ) → i < 8 → b * 2 ^ (56 - 8 * i) % 18446744073709551616 ≡ b * 256 ^ (7 - i)
-shifted b h =
+pub shifted : (i : ℕ) → i < 8 → 72057594037927936 / 2 ^ (8 * i) ≡ 256 ^ (7 - i)
+shifted = below_eight (λ i. 72057594037927936 / 2 ^ (8 * i) ≡ 256 ^ (7 - i)) refl refl refl refl refl refl refl refl
+
+-- byte i with its weight
+byte_shifted : (b : ℕ) → b < 256 → (i : ℕ) → i < 8 → b * 2 ^ (56 - 8 * i) % 18446744073709551616 ≡ b * 256 ^ (7 - i)
+byte_shifted b h =
     below_eight (λ i. b * 2 ^ (56 - 8 * i) % 18446744073709551616 ≡ b * 256 ^ (7 - i))
     (omega arith) (omega arith) (omega arith) (omega arith) (omega arith) (omega arith) (omega arith) (omega arith)
 
@@ -132,7 +146,7 @@ map_next s at p bits b o h k e f =
     let n : p + 1 - at ≡ suc (p - at) = omega arith in
     let q : at + (p - at) ≡ p = omega arith in
     let g : get_or (drop at s) (p - at) 0 ≡ b = rw (get_or-drop, q, f) refl in
-    rw (n, shifted b (rw f (o p)) (p - at) (omega arith), e, g) refl
+    rw (n, byte_shifted b (rw f (o p)) (p - at) (omega arith), e, g) refl
 
 -- so many bytes have room
 pub map_room : (s : Bytes) (at p : ℕ) → AreBytes s → at ≤ p → p < at + 8 → top_bytes (drop at s) (p + 1 - at) < 18446744073709551616
@@ -148,6 +162,25 @@ map_room s at p o h k =
         (omega (arith, o 0)) (omega (arith, o 0, o 1)) (omega (arith, o 0, o 1, o 2)) (omega (arith, o 0, o 1, o 2, o 3))
         (omega (arith, o 0, o 1, o 2, o 3, o 4)) (omega (arith, o 0, o 1, o 2, o 3, o 4, o 5)) (omega (arith, o 0, o 1, o 2, o 3, o 4, o 5, o 6))
         (omega (arith, o 0, o 1, o 2, o 3, o 4, o 5, o 6, o 7))
+
+-- one byte more: there is room for it
+pub map_room_sum :
+    (bits i b : ℕ) → i < 8 → bits + 256 ^ (8 - i) ≤ 18446744073709551616 → b < 256 →
+    bits + b * (72057594037927936 / 2 ^ (8 * i)) + 256 ^ (8 - (i + 1)) ≤ 18446744073709551616
+map_room_sum bits i b h r k =
+    let e : 8 - i ≡ suc (7 - i) = omega arith in
+    let f : 8 - (i + 1) ≡ 7 - i = omega arith in
+    rw (shifted i h, f) (omega (arith, ap (λ (n : ℕ). 256 ^ n) e ∙ pow-suc 256 (7 - i), mul-le-mul_right (256 ^ (7 - i)) k))
+
+pub map_fits :
+    (bits i b : ℕ) → i < 8 → bits + 256 ^ (8 - i) ≤ 18446744073709551616 → b < 256 →
+    bits + b * (72057594037927936 / 2 ^ (8 * i)) < 18446744073709551616
+map_fits bits i b h r k = omega (arith, map_room_sum bits i b h r k, one-le-pow (8 - (i + 1)) 256 (zero-lt-suc 255))
+
+pub map_next_sum :
+    (l : Bytes) (bits i b : ℕ) → i < 8 → bits ≡ top_bytes l i → b ≡ get_or l i 0 → bits + b * (72057594037927936 / 2 ^ (8 * i)) ≡ top_bytes l (i + 1)
+unfolding top_bytes
+map_next_sum l bits i b h e f = rw (add-one i, e, f, shifted i h)
 
 -- past the end there are zeros
 pub top_rest : (l : Bytes) (i m : ℕ) → length l ≤ i → top_bytes l (i + m) ≡ top_bytes l i

@@ -7,7 +7,7 @@ use mathlib.Core.Bool.{Bool, true, false}
 use native.Mathlib.Numerals.{add-one}
 use native.Mathlib.Omega.{arith}
 use lib.ListN.{length, get_or, set, drop, length-drop, drop_of_length-le}
-use lib.Seq.{drop-cons, paste, paste-suc}
+use lib.Seq.{drop-cons, paste, paste-suc, paste-zero}
 use lib.Dec.{ltb}
 use borrow.Author.Tests.{ltb-true, ltb-false}
 use Rattle.wire.specs.declared.error.Input.{Input}
@@ -114,6 +114,9 @@ pub record Filled (ns entry table left : List ℕ) (n : ℕ) : Type 0 where
   pub holds : table ≡ paste entry 0 ns n
 
 module _ (ns entry : List ℕ) where
+  pub filled_start : Filled ns entry entry ns 0
+  filled_start = record { few = omega arith; rest = refl; holds = sym (paste-zero entry 0 ns) }
+
   pub filled_next : {table left : List ℕ} {n : ℕ} (x : ℕ) (later : List ℕ) → Filled ns entry table left n → n < length entry → left ≡ x ∷ later → Filled ns entry (set table n x) later (n + 1)
   filled_next {table} {left} {n} x later f h e =
       let r : drop n ns ≡ x ∷ later = f.rest ∙ e in

@@ -4,21 +4,25 @@ use Prim.Native.Nat.{ℕ, ◌+◌, ◌≤◌, ◌<◌}
 use mathlib.Core.Path.{◌≡◌, refl, sym, ap, ◌∙◌}
 use mathlib.Core.List.{List}
 use lib.ListN.{length, get_or}
-use borrow.Author.Tests.{lt-ltb, le-ltb}
+use borrow.Author.Tests.{lt-ltb, le-ltb, eq-eqb, ne_eqb}
 use Rattle.wire.specs.declared.error.Error.{Error}
 use Rattle.wire.specs.declared.error.Input.{Input}
 use Rattle.wire.specs.declared.error.Input.TheVariants as input
 use Rattle.wire.specs.Errors.{code_of}
 use Rattle.wire.specs.Read.{Bytes, AreBytes, Read, ok, bad, ◌>>=◌, check, about, refused, sized}
 use Rattle.tree.specs.Reader.{file_of}
-use Rattle.tree.specs.Schemas.{Entry, child_number, Schema, read_schemas, schema_at}
-use Rattle.tree.specs.Table.{table_size, schema_slot, start_in, count_in, entry_in, entries_in, schema_in, schemas_in}
+use Rattle.tree.specs.Schemas.{Entry, child_number, Schema, read_schemas, schema_at, or0}
+use Rattle.tree.specs.Table.{table_size, schema_slot, start_in, count_in, entry_in, entries_in, schema_in, schemas_in, code_in, id_in}
 use Rattle.tree.specs.Filling.{Filled, fill_file}
 use Rattle.questions.specs.Questions.{with_schema, alone, counts_of, Selected, selected, selected_of, found_child, child_of, nested_of, entry_at, column_of}
 use Rattle.tree.proofs.SchemaLists.{schemas_length, column_total}
 use Rattle.tree.proofs.Laws.{schema_missing, schema_at_lem}
 use Rattle.tree.proofs.TableSays.{entries_length, entries_at}
 use Rattle.tree.proofs.Filled.{schemas_refused, file_read}
+use native.Mathlib.Omega.{arith}
+use mathlib.Core.Option.{Option, none, some}
+use Rattle.column.specs.Types.{chapter_code}
+use Rattle.tree.proofs.Children.{child_found}
 
 module _ (b : Bytes) (table : List ℕ) (bytes : AreBytes b) (long : length table ≡ table_size) where
   -- how much a file has
@@ -101,6 +105,20 @@ module _ (b : Bytes) (id : ℕ) where
   unfolding child_of about
   child_read ss h = rw h refl
 
+  pub child_none_of : (ss : List Schema) → read_schemas b ≡ ok ss → or0 (child_number ss id) ≡ 0 → child_of b id ≡ bad 18 0 input.ChildId
+  child_none_of ss h z = child_read ss h ∙ go (child_number ss id) refl z
+    where
+      go : (r : Option ℕ) → child_number ss id ≡ r → or0 r ≡ 0 → found_child r ≡ bad 18 0 input.ChildId
+      go none e q = refl
+      go (some n) e q = absurd (omega (arith, (child_found ss id n e).0))
+
+  pub child_some_of : (ss : List Schema) (n : ℕ) → read_schemas b ≡ ok ss → n ≡ or0 (child_number ss id) → (n ≡ 0 → ⊥) → child_of b id ≡ ok n
+  child_some_of ss n h z p = child_read ss h ∙ go (child_number ss id) z
+    where
+      go : (r : Option ℕ) → n ≡ or0 r → found_child r ≡ ok n
+      go none q = absurd (p q)
+      go (some m) q = ap (λ (x : ℕ). ok x) (sym q)
+
 -- A column by its slot.
 pub entry_missing : (start count j : ℕ) (table : List ℕ) → count ≤ j → entry_at (entries_in start count table) j ≡ bad 18 0 input.Column
 unfolding entry_at about check
@@ -121,3 +139,13 @@ module _ (b : Bytes) (k j : ℕ) (ss : List Schema) (start count : ℕ) (table :
         column_of b k j ≡ ok (record { column = entry_in (get_or table (start + j) 0); nested = nested_of ss (entry_in (get_or table (start + j) 0)) })
     unfolding column_of
     column_some = select_found b k _ ss (entries_in start count table) h ∙ rw (entry_at_lem start count j table l) refl
+
+    pub column_chapter :
+        (n : ℕ) → code_in (get_or table (start + j) 0) ≡ chapter_code → n ≡ or0 (child_number ss (id_in (get_or table (start + j) 0))) →
+        column_of b k j ≡ ok (record { column = entry_in (get_or table (start + j) 0); nested = n })
+    column_chapter n c e = column_some ∙ rw (eq-eqb (code_in (get_or table (start + j) 0)) chapter_code c, e) refl
+
+    pub column_plain :
+        (code_in (get_or table (start + j) 0) ≡ chapter_code → ⊥) →
+        column_of b k j ≡ ok (record { column = entry_in (get_or table (start + j) 0); nested = 0 })
+    column_plain c = column_some ∙ rw (ne_eqb (code_in (get_or table (start + j) 0)) chapter_code c) refl

@@ -16,6 +16,7 @@ use Rattle.schema.specs.declared.runs.Run.{Run}
 use Rattle.schema.specs.Runs.{laid_from, RanInto}
 use Rattle.schema.specs.Flat.{laid_over, Flat}
 use Rattle.schema.proofs.Reading.{columns_end, schema_columns}
+use Rattle.entry.proofs.Heads.{range_inside}
 
 -- one more slot laid over
 laid_next : (slots table : List ℕ) (i : ℕ) → i < length slots → i < length table → set (laid_over i slots table) i (get_or slots i 0) ≡ laid_over (suc i) slots table
@@ -56,3 +57,9 @@ flat_end b n from {slots} r size count k m p l e =
           ∙ rw (x, y, z, laid) (columns_end (fill_schema 3 b) b n (filled (length b) n 1 (laid_over n slots opened)) (n - n) w) in
           simp (sized_within b size, filling, le-leb (length b) (length b) (omega arith));
     }
+
+-- the count that was read is no less than 1
+pub flat_found :
+    (b : Bytes) (n from : ℕ) {slots : List ℕ} (r : Run) → length b ≤ limit → range_at 1 most_columns b 0 ≡ ok (found n from) → n ≤ most_columns →
+    RanInto b from n slots r → n ≤ r.count → length b ≤ r.at → Flat b slots n
+flat_found b n from {slots} r size count = flat_end b n from r size count (range_inside 1 most_columns b 0 count).least

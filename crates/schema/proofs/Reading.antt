@@ -8,7 +8,7 @@ use mathlib.Core.List.{List}
 use mathlib.Core.Bool.{Bool, true, false, not, ◌||◌}
 use native.Mathlib.Omega.{arith}
 use lib.ListN.{get_or, set}
-use borrow.Author.Tests.{le-leb, lt-leb}
+use borrow.Author.Tests.{le-leb, lt-leb, eq-eqb, ne_eqb}
 use Rattle.wire.specs.declared.error.Error.{Error}
 use Rattle.wire.specs.declared.error.Input.TheVariants.{Single}
 use Rattle.wire.specs.Read.{Bytes, Read, ok, bad, ◌>>=◌, pick, check, refused}
@@ -41,6 +41,28 @@ module _ (table : List ℕ) (id : ℕ) where
   pub seen_any : (schemas : ℕ) → list_any (λ (k : ℕ). eqb id (id_in (get_or table (schema_slot k) 0))) (range_with_len 1 (schemas - 1)) ≡ member id (ids_in schemas table)
   unfolding ids_in
   seen_any schemas = seen_from (schemas - 1) 1
+
+-- and one by one
+
+module _ (table : List ℕ) (schemas id i : ℕ) where
+  pub seen_end : schemas ≤ i → member id (ids_from i (schemas - i) table) ≡ false
+  unfolding ids_from member
+  seen_end h =
+      let z : schemas - i ≡ 0 = omega arith in
+      rw z refl
+
+  module _ (h : i < schemas) where
+    pub seen_hit : id_in (get_or table (schema_slot i) 0) ≡ id → member id (ids_from i (schemas - i) table) ≡ true
+    unfolding ids_from member
+    seen_hit e =
+        let z : schemas - i ≡ suc (schemas - (i + 1)) = omega arith in
+        rw z (rw (eq-eqb id (id_in (get_or table (schema_slot i) 0)) (sym e)) refl)
+
+    pub seen_next : (id_in (get_or table (schema_slot i) 0) ≡ id → ⊥) → member id (ids_from i (schemas - i) table) ≡ member id (ids_from (i + 1) (schemas - (i + 1)) table)
+    unfolding ids_from member
+    seen_next e =
+        let z : schemas - i ≡ suc (schemas - (i + 1)) = omega arith in
+        rw z (rw (ne_eqb id (id_in (get_or table (schema_slot i) 0)) (λ f. e (sym f))) refl)
 
 -- A column by its numbers.
 

@@ -20,7 +20,7 @@ use Rattle.column.specs.declared.column.Column.{Column}
 use Rattle.column.specs.declared.field.Field.{Field}
 use Rattle.column.specs.Columns.{is_chapter, is_nullable}
 use Rattle.column.specs.Fields.{field_at}
-use Rattle.column.specs.Layout.{padded}
+use Rattle.column.specs.Layout.{padded, most_columns, filled, layout}
 use Rattle.walk.specs.Presence.{no_column, one, nullables, presence_bytes, Mark, mark, no_mark, marks, bit_of, mark_of, present, chapter_present, clear}
 use Rattle.walk.specs.Rows.{Place, place, past, step, walk, arrive, opened, walked, row_end, field, null, chapter, field_of, column_of, known, look_up, look_up_row, always, set_bits, field_count}
 
@@ -118,6 +118,10 @@ module _ (map : Bytes) (c : Column) (b : ℕ) where
       go : (t : Bool) → is_chapter c ≡ t → pick t (pick (is_nullable c) (bit_set map b) false) false ≡ false
       go true e = rw n
       go false e = refl
+
+  pub chapter_none : is_chapter c ≡ false → chapter_present map (mark c b) ≡ false
+  unfolding chapter_present
+  chapter_none e = rw e
 
 -- A rule over the marks, checked one by one: those before i keep it.
 
@@ -378,6 +382,24 @@ map_few n = omega arith
 
 -- Columns that are always present, and set bits, counted along a loop.
 
+pub always_zero : (cs : List Column) → always (take 0 cs) ≡ 0
+unfolding always
+always_zero cs = refl
+
+always_suc :
+    (cs : List Column) (i : ℕ) → i < length cs →
+    always (take (suc i) cs) ≡ always (take i cs) + pick (is_chapter (get_or cs i no_column)) 0 (pick (is_nullable (get_or cs i no_column)) 0 1)
+unfolding always
+always_suc [] i h = absurd (omega arith)
+always_suc (c ∷ cs) zero h = omega arith
+always_suc (c ∷ cs) (suc i) h = omega (arith, always_suc cs i (omega arith))
+
+-- one column more, by what is counted for it
+pub always_one :
+    (cs : List Column) (i : ℕ) → i < length cs → {o : ℕ} → pick (is_chapter (get_or cs i no_column)) 0 (pick (is_nullable (get_or cs i no_column)) 0 1) ≡ o →
+    always (take (i + 1) cs) ≡ always (take i cs) + o
+always_one cs i h e = rw (add-one i) (always_suc cs i h ∙ ap (λ (o : ℕ). always (take i cs) + o) e)
+
 -- no more than there are columns
 pub always_few : (cs : List Column) (i : ℕ) → always (take i cs) ≤ i
 unfolding always
@@ -410,3 +432,22 @@ padded_at (suc n) [] zero h = refl
 padded_at (suc n) [] (suc i) h = padded_at n [] i (omega arith)
 padded_at (suc n) (a ∷ l) zero h = refl
 padded_at (suc n) (a ∷ l) (suc i) h = padded_at n l i (omega arith)
+
+-- Columns by value.
+
+filled_at : (n : ℕ) (cs : List Column) (i : ℕ) → i < n → get_or (filled n cs) i no_column ≡ get_or cs i no_column
+unfolding filled
+filled_at zero cs i h = absurd (omega arith)
+filled_at (suc n) [] zero h = refl
+filled_at (suc n) [] (suc i) h = filled_at n [] i (omega arith)
+filled_at (suc n) (c ∷ cs) zero h = refl
+filled_at (suc n) (c ∷ cs) (suc i) h = filled_at n cs i (omega arith)
+
+pub layout_count : (cs : List Column) → (layout cs).count ≡ length cs
+unfolding layout
+layout_count cs = refl
+
+-- column i, from the array
+pub layout_column : (cs : List Column) (i : ℕ) → i < most_columns → get_or (layout cs).columns i no_column ≡ get_or cs i no_column
+unfolding layout
+layout_column cs i h = filled_at most_columns cs i h

@@ -10,8 +10,8 @@ use mathlib.Core.Bool.{Bool, true, false, true≢false}
 use native.Mathlib.Omega.{arith}
 use mir.Val.{bool_byte}
 use lib.ListN.{length, get_or, take}
-use lib.Dec.{leb}
-use borrow.Author.Tests.{leb-true}
+use lib.Dec.{leb, ltb}
+use borrow.Author.Tests.{leb-true, ltb-true, ltb-false}
 use Rattle.column.specs.declared.column.Column.{Column}
 use Rattle.wire.specs.Read.{Bytes, ok, pick, check}
 use Rattle.column.specs.Columns.{width, is_nullable, is_variable, is_chapter}
@@ -84,6 +84,22 @@ module _ (slots : List ℕ) where
       let y = bit_next (packed_from n 0 slots) i (omega (arith, length_from n 0, h)) in
       let z = bit_few (packed_from n 0 slots) (i + 1) in
       (omega (arith, e, x, y), omega (arith, e, x, y, z))
+
+  -- one more column that is none
+  pub no_chapter_next :
+      (count i : ℕ) (c : Column) {t : Bool} {o : ℕ} → (count ≡ 0 → (j : ℕ) → j < i → is_chapter (packed_at slots j) ≡ false) → c ≡ packed_at slots i →
+      t ≡ is_chapter c → o ≡ one t → count + o ≡ 0 → (j : ℕ) → j < i + 1 → is_chapter (packed_at slots j) ≡ false
+  no_chapter_next count i c {t} {o} before e f g z j l = go (ltb j i) refl
+    where
+      plain : (t : Bool) → o ≡ one t → t ≡ false
+      plain true q = absurd (omega arith)
+      plain false q = refl
+
+      go : (b : Bool) → ltb j i ≡ b → is_chapter (packed_at slots j) ≡ false
+      go true q = before (omega arith) j (ltb-true j i q)
+      go false q =
+          let y : j ≡ i = omega (arith, l, ltb-false j i q) in
+          ap (λ (j : ℕ). is_chapter (packed_at slots j)) y ∙ ap is_chapter (sym e) ∙ sym f ∙ plain t g
 
   -- where no column is a chapter, no chapter's bit is set
   pub no_chapter_set :

@@ -50,6 +50,10 @@ module _ (map : Bytes) (c : Column) (i : ℕ) where
   marked_none e = rw e
 
 module _ (update force : Bytes) (c : Column) (i : ℕ) where
+  pub force_not : bit_set force i ≡ false → force_broken update force (mark c i) ≡ false
+  unfolding force_broken
+  force_not f = rw f
+
   pub force_alone : bit_set force i ≡ true → bit_set update i ≡ false → force_broken update force (mark c i) ≡ true
   unfolding force_broken
   force_alone f u = rw (f, u)
@@ -59,6 +63,14 @@ module _ (update force : Bytes) (c : Column) (i : ℕ) where
   force_plain f n = rw (f, n) (go (bit_set update i))
     where
       go : (u : Bool) → pick u true true ≡ true
+      go true = refl
+      go false = refl
+
+  pub force_well : bit_set update i ≡ true → is_nullable c ≡ true → force_broken update force (mark c i) ≡ false
+  unfolding force_broken
+  force_well u n = rw (u, n) (go (bit_set force i))
+    where
+      go : (f : Bool) → pick f false false ≡ false
       go true = refl
       go false = refl
 
@@ -271,3 +283,7 @@ module _ (cs : List Column) (row update : Bytes) (k : ℕ) where
 pub from_row_lem : {r : Read Answer} (a : Answer) → r ≡ ok a → from_row r ≡ ok (original a)
 unfolding from_row
 from_row_lem a h = rw h
+
+pub from_row_bad : {r : Read Answer} {e o : ℕ} {i : Input} → r ≡ bad e o i → from_row r ≡ bad e o i
+unfolding from_row
+from_row_bad h = rw h

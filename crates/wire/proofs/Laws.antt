@@ -181,8 +181,13 @@ module _ (s : Bytes) (at : ℕ) where
   int_told : (size v : ℕ) → at + size ≤ length s → int_at s at size ≡ v → ok v ≡ read_int s at size
   int_told size v h e = ap (λ (n : ℕ). ok n) (sym e) ∙ sym (int_fits s at size h)
 
-  int_one : (v : ℕ) → at + 1 ≤ length s → v ≡ get_or s at 0 → ok v ≡ read_int s at 1
+  pub int_one : (v : ℕ) → at + 1 ≤ length s → v ≡ get_or s at 0 → ok v ≡ read_int s at 1
   int_one v h e = int_told 1 v h (omega (arith, int_suc s at 0 (omega arith), int_zero s (at + 1)))
+
+  pub int_two : (v w : ℕ) → at + 2 ≤ length s → v ≡ get_or s at 0 → w ≡ get_or s (at + 1) 0 → ok (v + 256 * w) ≡ read_int s at 2
+  int_two v w h e f =
+      int_told 2 (v + 256 * w) h
+      (omega (arith, int_suc s at 1 (omega arith), int_step 1 0 (omega arith), int_zero s (at + 2)))
 
   pub int_four :
       {v w x y : ℕ} → at + 4 ≤ length s → v ≡ get_or s at 0 → w ≡ get_or s (at + 1) 0 → x ≡ get_or s (at + 2) 0 → y ≡ get_or s (at + 3) 0 →
