@@ -19,3 +19,13 @@ wrote_exit row place out (Err d) e same h =
       answers = ap size_of (sym z);
       leaves = ap (λ (r : Read Bytes). output_with r place out) (sym z);
     }
+
+-- the same row, said otherwise
+pub wrote_same :
+    {row other : Read Bytes} {place : ℕ} {entry exit : Bytes} {answer : Result ℕ Error} → WroteAt row place entry exit answer → row ≡ other →
+    WroteAt other place entry exit answer
+wrote_same {place = place} {entry = entry} w e =
+    record {
+      answers = w.answers ∙ ap size_of e;
+      leaves = w.leaves ∙ ap (λ (r : Read Bytes). output_with r place entry) e;
+    }

@@ -21,6 +21,13 @@ pub struct FedAnswer {
     pub second: u64,
 }
 
+// The next record and the answer, for a caller that keeps records by value.
+#[derive(Clone, Copy)]
+pub struct NextAnswer {
+    pub reader: Reader,
+    pub answer: FedAnswer,
+}
+
 // An answer as numbers.
 fn tell_fed(fed: Result<Fed, Error>) -> FedAnswer
     ensures { result ≡ fed_answer (told_fed fed) }

@@ -4,11 +4,12 @@ use Prim.Native.Nat.{ℕ, ◌+◌, ◌*◌, ◌≤◌}
 use mathlib.Core.Path.{◌≡◌, refl, sym, ap, ◌∙◌}
 use mathlib.Core.List.{List, [], ◌∷◌, ◌++◌, append-nil}
 use native.Mathlib.Omega.{arith}
-use lib.ListN.{length, take, drop, length-append, take-append-drop}
+use lib.ListN.{length, take, drop, length-append, take-append-drop, set}
 use Rattle.wire.specs.Output.{put}
-use Rattle.wire.proofs.Laws.{take_put, put_fits, length_put, put_put}
+use Rattle.wire.proofs.Laws.{take_put, put_fits, length_put, put_put, put_paste}
 use Rattle.batch.specs.Spans.{Span, span_numbers, spans_numbers}
 use Rattle.batch.specs.Scan.{laid_from}
+use lib.Seq.{paste, paste-zero, paste-suc}
 
 pub length_laid : (i : ℕ) (xs : List Span) (numbers : List ℕ) → length (laid_from i xs numbers) ≡ length numbers
 unfolding laid_from
@@ -49,3 +50,14 @@ held_laid xs held numbers h k =
     ∙ ap (λ (n : ℕ). put numbers 0 (take n (put held 0 (spans_numbers xs)))) (sym l)
     ∙ ap (put numbers 0) (take_put held (spans_numbers xs) (omega arith))
     ∙ sym (laid_all xs numbers (omega arith))
+
+-- two numbers stored one by one
+pub put_two : (numbers : List ℕ) (at a b : ℕ) → at + 2 ≤ length numbers → set (set numbers at a) (at + 1) b ≡ put numbers at (a ∷ b ∷ [])
+put_two numbers at a b h =
+    let x : List ℕ = a ∷ b ∷ [] in
+    let z : at ≡ at + 0 = omega arith in
+    ap (λ (t : List ℕ). set (set t at a) (at + 1) b) (paste-zero numbers at x)
+    ∙ ap (λ (n : ℕ). set (set (paste numbers at x 0) n a) (at + 1) b) z
+    ∙ ap (λ (t : List ℕ). set t (at + 1) b) (paste-suc numbers at x 0 0 (omega arith) (omega arith))
+    ∙ paste-suc numbers at x 1 0 (omega arith) (omega arith)
+    ∙ sym (put_paste numbers at x h)

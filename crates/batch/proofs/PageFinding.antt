@@ -10,16 +10,22 @@ use borrow.Author.Tests.{le-leb, lt-leb}
 use Rattle.wire.specs.declared.error.Error.{Error}
 use Rattle.wire.specs.declared.error.Input.TheVariants as input
 use Rattle.wire.specs.declared.error.ErrorKind.TheVariants as error
-use Rattle.wire.specs.Read.{Bytes, Read, bad, check, about, limit, refused}
-use Rattle.wire.proofs.Laws.{sized_over, sized_within}
+use Rattle.wire.specs.Read.{Bytes, Read, bad, check, about, limit, refused, ok}
+use Rattle.wire.proofs.Laws.{sized_over, sized_within, length_put}
 use Rattle.walk.specs.Rows.{Answer}
-use Rattle.batch.specs.Pages.{Page, rows_in, page_by, page_after, Paged}
+use Rattle.batch.specs.Pages.{Page, rows_in, page_by, page_after, Paged, page_numbers}
 use Rattle.batch.specs.PageScan.{page_from, page_scanned}
 
 -- an error leaves the numbers
 found_error : (p : Read Page) (numbers : List ℕ) (e : Error) → p ≡ refused e → Paged p numbers numbers (Err e)
 unfolding page_after
 found_error p numbers e q = record { answers = rw q refl; leaves = rw q refl }
+
+-- the numbers stay as many
+pub page_length : (p : Read Page) (numbers : List ℕ) → length (page_after p numbers) ≡ length numbers
+unfolding page_after
+page_length (ok p) numbers = length_put numbers 0 (page_numbers p.found)
+page_length (bad code offset about) numbers = refl
 
 module _ (look : Bytes → Read Answer) (s : Bytes) (table : List ℕ) (rows from owner : ℕ) (numbers : List ℕ) where
   abbrev answer : Read Page

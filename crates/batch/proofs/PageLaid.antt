@@ -4,10 +4,11 @@ use Prim.Native.Nat.{ℕ, ◌+◌, ◌*◌, ◌≤◌}
 use mathlib.Core.Path.{◌≡◌, refl, sym, ap, ◌∙◌}
 use mathlib.Core.List.{List, [], ◌∷◌, ◌++◌, append_assoc}
 use native.Mathlib.Omega.{arith}
-use lib.ListN.{length, length-append}
+use lib.ListN.{length, length-append, set}
 use Rattle.wire.specs.Output.{put}
-use Rattle.wire.proofs.Laws.{put_fits, put_next}
+use Rattle.wire.proofs.Laws.{put_fits, put_next, put_paste}
 use Rattle.batch.specs.Pages.{Located, located_numbers, page_numbers}
+use lib.Seq.{paste, paste-zero, paste-suc}
 
 pub length_numbers : (xs : List Located) → length (page_numbers xs) ≡ 3 * length xs
 unfolding page_numbers
@@ -32,3 +33,16 @@ pub next_laid :
 next_laid xs x numbers laid e h =
     put_next numbers laid (page_numbers xs) (located_numbers x) (3 * length xs) e (sym (length_numbers xs)) (omega (arith, length_numbers xs))
     ∙ ap (put numbers 0) (sym (numbers_next xs x))
+
+-- three numbers stored one by one
+pub put_three :
+    (numbers : List ℕ) (at a b c : ℕ) → at + 3 ≤ length numbers → set (set (set numbers at a) (at + 1) b) (at + 2) c ≡ put numbers at (a ∷ b ∷ c ∷ [])
+put_three numbers at a b c h =
+    let x : List ℕ = a ∷ b ∷ c ∷ [] in
+    let z : at ≡ at + 0 = omega arith in
+    ap (λ (t : List ℕ). set (set (set t at a) (at + 1) b) (at + 2) c) (paste-zero numbers at x)
+    ∙ ap (λ (n : ℕ). set (set (set (paste numbers at x 0) n a) (at + 1) b) (at + 2) c) z
+    ∙ ap (λ (t : List ℕ). set (set t (at + 1) b) (at + 2) c) (paste-suc numbers at x 0 0 (omega arith) (omega arith))
+    ∙ ap (λ (t : List ℕ). set t (at + 2) c) (paste-suc numbers at x 1 0 (omega arith) (omega arith))
+    ∙ paste-suc numbers at x 2 0 (omega arith) (omega arith)
+    ∙ sym (put_paste numbers at x h)

@@ -18,6 +18,7 @@ use Rattle.batch.specs.Pages.{Numbered, numbered, owned_in, Located, located, lo
 use Rattle.batch.specs.PageScan.{page_from, page_scanned}
 use Rattle.batch.proofs.PageLaid.{none_laid, next_laid}
 use Rattle.batch.proofs.Rows.{owned_end, owned_other, owned_next}
+use Rattle.wire.proofs.Laws.{length_put}
 
 -- a page behind spans that were found
 abbrev behind : List Located → Page → Page
@@ -92,6 +93,9 @@ module _ (look : Bytes → Read Answer) (s : Bytes) (table : List ℕ) (rows fro
   paged xs numbers count next z l q = record { answers = rw (q, z) refl; leaves = rw q l }
 
   module _ (numbers : List ℕ) (i count : ℕ) (a : AtRow look s table rows from owner first numbers i count) where
+    pub at_long : length numbers ≡ length first
+    at_long = ap length a.laid ∙ length_put first 0 (page_numbers a.found)
+
     pub at_end : rows ≤ i → Paged scanned first numbers (Ok (record { spans = count; next = rows }))
     at_end h =
         paged a.found numbers count rows a.many a.laid
@@ -128,6 +132,9 @@ module _ (look : Bytes → Read Answer) (s : Bytes) (table : List ℕ) (rows fro
         module _ (l : count < room_in (length first)) where
           room_left : room_in (length first) - count ≡ suc (room_in (length first) - (count + 1))
           room_left = omega arith
+
+          pub at_room : 3 * count + 3 ≤ length numbers
+          at_room = omega (arith, at_long)
 
           -- it is the first, and is refused
           pub at_first : (e : Error) → count ≡ 0 → span_in look s (row_at table i).original ≡ refused e → Paged scanned first numbers (Err e)

@@ -1,10 +1,10 @@
 -- One row's span: what a look-up in the part of a section tells of the section.
 -- Assumes nothing.
-use Prim.Native.Nat.{ℕ, ◌+◌, ◌-◌, ◌≤◌}
+use Prim.Native.Nat.{ℕ, ◌+◌, ◌-◌, ◌≤◌, ◌*◌}
 use mathlib.Core.Bool.{Bool, true, false}
 use mathlib.Core.Path.{◌≡◌, refl, sym, ap, ◌∙◌}
 use native.Mathlib.Omega.{arith}
-use lib.ListN.{length, take, drop, length-drop}
+use lib.ListN.{length, take, drop, length-drop, get_or}
 use Rattle.wire.specs.declared.error.Error.{Error}
 use Rattle.wire.specs.declared.error.Input.{Input}
 use Rattle.wire.specs.declared.error.Input.TheVariants as input
@@ -16,8 +16,21 @@ use Rattle.walk.proofs.Arrays.{rest}
 use Rattle.plan.specs.declared.plan.Plan.{Plan}
 use Rattle.jump.specs.Jumps.{planned_row}
 use Rattle.jump.proofs.Inside.{row_inside}
-use Rattle.batch.specs.Spans.{start_in, Span, span, null_mark, chapter_mark, span_of, is_row, moved, span_in, planned}
+use Rattle.batch.specs.Spans.{start_in, Span, span, null_mark, chapter_mark, span_of, is_row, moved, span_in, planned, parents, row_at, owner_of}
 use Rattle.batch.proofs.Places.{row_errors, error_inside}
+use mathlib.Core.List.{List}
+use borrow.Author.Tests.{eq-eqb, ne_eqb}
+
+-- The owner of a row, by its kind.
+
+module _ (table : List ℕ) (i : ℕ) where
+  pub owner_parent : get_or table (4 * i) 0 ≡ 1 → owner_of (row_at table i) ≡ parents
+  unfolding owner_of
+  owner_parent e = rw (eq-eqb _ _ e) refl
+
+  pub owner_child : (get_or table (4 * i) 0 ≡ 1 → ⊥) → owner_of (row_at table i) ≡ get_or table (4 * i + 1) 0
+  unfolding owner_of
+  owner_child d = rw (ne_eqb _ _ d) refl
 
 -- Errors.
 

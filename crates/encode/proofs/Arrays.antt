@@ -162,7 +162,7 @@ module _ (cs : List Column) (numbers : List ℕ) (values : Bytes) where
     fields_most h = omega (arith, fields_small h (length cs) (omega arith), ap length fields_all)
 
     -- one column more adds its bit
-    bits_next : (m : Map) (n : ℕ) → n < length cs → bits_of m (take (n + 1) cs) (entries (n + 1) 0) ≡ bits_of m (take n cs) (entries n 0) ++ added m (get_or cs n d) (entry n)
+    pub bits_next : (m : Map) (n : ℕ) → n < length cs → bits_of m (take (n + 1) cs) (entries (n + 1) 0) ≡ bits_of m (take n cs) (entries n 0) ++ added m (get_or cs n d) (entry n)
     bits_next m n h =
         let z : 0 + n ≡ n = omega arith in
         let j : (k : ℕ) → k ≤ length cs → bits_of m (take k cs) (entries k 0) ≡ joined (added m) (take k cs) (entries k 0) =

@@ -38,7 +38,8 @@ use Rattle.incremental.specs.declared.feed.Next.{Next}
 use Rattle.incremental.specs.Record.{input_in, state_in, fits, known_code, reader_in, state_of, record_of}
 use Rattle.incremental.specs.Calls.{record_fed, answer_fed, record_closed, answer_closed, told_fed}
 use Rattle.incremental.specs.Steps.{place_in, Sane, Stands, Left, Tells, Slotted, FileRead}
-use Rattle.incremental.proofs.StateLaws.{state_between, state_piece, state_body, state_finished, place_between, place_piece, place_late}
+use Rattle.incremental.proofs.StateLaws.{state_between, state_piece, state_body, state_finished, place_between, place_piece, place_late, state_stopped}
+use Rattle.incremental.specs.declared.feed.Fed.TheVariants as fed
 
 -- The record of a state, by its stage.
 data Open (r : Reader) : Type 0 where
@@ -221,6 +222,28 @@ module _ (r : Reader) where
       go true e = sym (ap told (state_finished r (eqb-true _ _ e)))
       go false e = sym (told_open (open_by r t.sane.stage) (eqb-false _ _ e))
 
+  pub tells_refused : {n : Next} → r.stage ≡ 8 → Tells (failed r.code r.at input.Section) n → Tells (standing (state_in r)) n
+  tells_refused e t = rw (state_stopped r (omega arith)) t
+
+  pub tells_complete : (a : Reader) → r.stage ≡ 7 → a ≡ state_of (state_in r) → Tells (standing (state_in r)) (record { reader = a; answer = Ok (fed.Complete r.rows) })
+  unfolding record_of
+  tells_complete a e h =
+      record {
+        keeps = h ∙ ap record_of (sym (standing_open (at_end e)));
+        answers = sym (rw (state_finished r e));
+      }
+
+  pub tells_going :
+      (a : Reader) → r.stage ≤ 7 → (r.stage ≡ 7 → ⊥) → a ≡ state_of (state_in r) →
+      Tells (standing (state_in r)) (record { reader = a; answer = Ok (fed.Going r.rows) })
+  unfolding record_of
+  tells_going a l n h =
+      let o : Open r = open_by r l in
+      record {
+        keeps = h ∙ ap record_of (sym (standing_open o));
+        answers = sym (ap tell (standing_open o) ∙ told_open o n);
+      }
+
 -- The numbers of kinds are those of refusals.
 pub code_known : (k : ErrorKind) {code : ℕ} → code_of k ≡ code → known_code code ≡ true
 code_known k {code} e = rw (← e) (go k)
@@ -317,11 +340,11 @@ module _ (file : Bytes) where
   file_large h = rw (sized_over file h) refl
 
   module _ (h : length file ≤ limit) where
-    file_refused : (e : Error) → read_schemas file ≡ refused e → file_schemas file ≡ bad (code_of e.kind) e.offset input.Schema
+    pub file_refused : (e : Error) → read_schemas file ≡ refused e → file_schemas file ≡ bad (code_of e.kind) e.offset input.Schema
     unfolding file_schemas about
     file_refused e q = rw (sized_within file h, q) refl
 
-    file_read : (S : List Schema) → read_schemas file ≡ ok S → file_schemas file ≡ ok S
+    pub file_read : (S : List Schema) → read_schemas file ≡ ok S → file_schemas file ≡ ok S
     unfolding file_schemas about
     file_read S q = rw (sized_within file h, q) refl
 

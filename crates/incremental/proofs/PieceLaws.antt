@@ -40,6 +40,9 @@ use Rattle.incremental.specs.declared.fields.Block.{Block}
 use Rattle.incremental.specs.Record.{before_by, paired_of, paired_id, kind_of, id_of, kind_in, held_in, map_in, stage_in, state_in, numbers}
 use Rattle.incremental.specs.Steps.{Columns, Sane, Stands, Reached}
 use Rattle.incremental.proofs.StateLaws.{before_back, kind_back, state_between, state_piece, state_finished, stage_child, stage_change, stage_delete, stage_maps, sane_between, sane_late, sane_piece, body_stands, stands}
+use lib.Seq.{length-take-le}
+use lib.Dec.{eqb}
+use Rattle.wire.specs.Errors.{code_of}
 
 -- The same record, of another way to say its state.
 pub stands_as : {st st' : State} {to : ℕ} {r : Reader} → Stands st to r → st ≡ st' → Stands st' to r
@@ -53,6 +56,32 @@ reached_as (Err q) s e f = s ∙ e
 pub reached_exit : (st : State) (to : ℕ) (r : Result Reader Error) (e : Error) → IsErrAnd r (λ d. d ≡ e) → settle (refused e) ≡ st → Reached st to r
 reached_exit st to (Ok _) e same h = elim same [ ]
 reached_exit st to (Err d) e same h = ap (λ (x : Error). settle (refused x)) same ∙ h
+
+-- An error of a piece is about a single input, and stands in it.
+pub record Within (size offset : ℕ) (name : Input) : Type 0 where
+  pub single : name ≡ input.Single
+  pub inside : offset ≤ size
+
+within : {n c o : ℕ} {i : Input} → RowErrorAt n c o × (i ≡ input.Single) → Within n o i
+within (short, e) = record { single = e; inside = omega arith }
+within (chapter_bit h, e) = record { single = e; inside = omega arith }
+within (force_rule h, e) = record { single = e; inside = omega arith }
+within (length_rule h, e) = record { single = e; inside = omega arith }
+
+pub int_within : (s : Bytes) (n : ℕ) {c o : ℕ} {i : Input} → read_int s 0 n ≡ bad c o i → Within (length s) o i
+int_within s n e = within (of_told (of_int s 0 n) e)
+
+pub data_within : (update : Bool) (cs : List Column) (s : Bytes) {c o : ℕ} {i : Input} → data_opened update cs s 0 ≡ bad c o i → Within (length s) o i
+unfolding update_end
+data_within true cs s {c} {o} {i} e =
+    let f : update_end cs s 0 ≡ bad c o i = rw e refl in
+    within (of_told (of_update s cs 0) f)
+data_within false cs s e = within (of_told (of_opened s cs 0) e)
+
+pub refused_piece :
+    {st : State} {size : ℕ} (to start : ℕ) (e : Error) → Within size e.offset e.input → st ≡ stopped (code_of e.kind) (start + e.offset) e.input →
+    Reached st to (Err (record { kind = e.kind; offset = start + e.offset; input = input.Single }))
+refused_piece {st} {size} to start e w q = ap (λ (i : Input). stopped (code_of e.kind) (start + e.offset) i) (sym w.single) ∙ sym q
 
 -- The place of an error of a piece is no greater than its size.
 early : {n c o : ℕ} {i : Input} → RowErrorAt n c o × (i ≡ input.Single) → o ≤ n
@@ -167,6 +196,9 @@ module _ (S : List Schema) (n start : ℕ) (bits : Bytes) (k : Kind) where
 
 -- Row data that start.
 module _ (S : List Schema) (n at : ℕ) (k : Kind) (size : ℕ) (e : size ≡ map_size S k) where
+  pub row_mapless : size ≡ 0 → row_from S n at k ≡ mapped S n at [] k
+  row_mapless z = rw (sym e ∙ z) refl
+
   row_maps : (size ≡ 0 → ⊥) → row_from S n at k ≡ ok (keep n at [] (size - 1) (maps k))
   row_maps z = rw (← e) (go size z)
     where
@@ -247,10 +279,63 @@ module _ (S : List Schema) (n at : ℕ) (before : Before) (t : ℕ) (a : n ≤ a
       ∙ sym (ap settle (token_delete S n at before t e)))
       (id_sane 3 n (at + 1) before (omega arith) (omega arith) (omega arith)) (omega arith)
 
+-- the same, of any id
+pub id_started : (stage rows at paired id : ℕ) → 1 ≤ stage → stage ≤ 3 → rows < at → Sane (numbers stage 0 0 id paired rows at 3 0 0 [] []) at
+id_started stage rows at paired id l h a =
+    let r : Reader = numbers stage 0 0 id paired rows at 3 0 0 [] [] in
+    let z : at + 0 ≡ at = omega arith in
+    rw z at (sane_piece r (omega arith) (omega arith) (omega arith) l (omega arith) (omega arith) (omega arith) (omega arith))
+
+-- A record that waits for an id of four bytes.
+pub record Waits (stage rows at paired id : ℕ) (r : Reader) : Type 0 where
+  pub stages : r.stage ≡ stage
+  pub counted : r.rows ≡ rows
+  pub stands : r.at ≡ at
+  pub pairs : r.paired ≡ paired
+  pub names : r.id ≡ id
+  pub lacks : r.more ≡ 3
+  pub empty : r.filled ≡ 0
+  pub sane : Sane r at
+
+pub waits :
+    {stage rows at paired id : ℕ} {r : Reader} →
+    (r.stage ≡ stage) × (r.rows ≡ rows) × (r.at ≡ at) × (r.paired ≡ paired) × (r.id ≡ id) × (r.more ≡ 3) × (r.filled ≡ 0) × Sane r at →
+    Waits stage rows at paired id r
+waits (a, b, c, d, e, f, g, h) =
+    record { stages = a; counted = b; stands = c; pairs = d; names = e; lacks = f; empty = g; sane = h }
+
+waits_in : {stage rows at paired id : ℕ} {r : Reader} → 1 ≤ stage → stage ≤ 5 → Waits stage rows at paired id r → state_in r ≡ keep rows at [] 3 (stage_in r)
+waits_in {stage} {rows} {at} {paired} {id} {r} l h w =
+    state_piece r (omega (arith, w.stages)) (omega (arith, w.stages)) ∙ rw (w.counted, w.stands, w.lacks, w.empty) refl
+
+module _ (S : List Schema) (n at paired id t : ℕ) (r : Reader) where
+  pub child_waiting : t ≡ 0x87 → Waits 1 n (at + 1) 0 0 r → Stands (settle (tokened S n at (before_by paired id) (token_of t))) (at + 1) r
+  child_waiting e w =
+      let z : r.at - 1 ≡ at = omega (arith, w.stands) in
+      let y : stage_in r ≡ child_id at = stage_child r w.stages ∙ rw z refl in
+      record { state = waits_in (omega arith) (omega arith) w ∙ rw y refl ∙ sym (ap settle (token_child S n at (before_by paired id) t e)); sane = w.sane }
+
+  pub change_waiting : t ≡ 0x8A → Waits 2 n (at + 1) paired id r → Stands (settle (tokened S n at (before_by paired id) (token_of t))) (at + 1) r
+  change_waiting e w =
+      let z : r.at - 1 ≡ at = omega (arith, w.stands) in
+      let y : stage_in r ≡ change_id (before_by paired id) at = stage_change r w.stages ∙ rw (z, w.pairs, w.names) refl in
+      record { state = waits_in (omega arith) (omega arith) w ∙ rw y refl ∙ sym (ap settle (token_change S n at (before_by paired id) t e)); sane = w.sane }
+
+  pub delete_waiting : t ≡ 0x8C → Waits 3 n (at + 1) paired id r → Stands (settle (tokened S n at (before_by paired id) (token_of t))) (at + 1) r
+  delete_waiting e w =
+      let z : r.at - 1 ≡ at = omega (arith, w.stands) in
+      let y : stage_in r ≡ delete_id (before_by paired id) at = stage_delete r w.stages ∙ rw (z, w.pairs, w.names) refl in
+      record { state = waits_in (omega arith) (omega arith) w ∙ rw y refl ∙ sym (ap settle (token_delete S n at (before_by paired id) t e)); sane = w.sane }
+
 pub done_read : (n at : ℕ) → n ≤ at → Stands (finished n at) at (numbers 7 0 0 0 0 n at 0 0 0 [] [])
 done_read n at h =
     let r : Reader = numbers 7 0 0 0 0 n at 0 0 0 [] [] in
     stands (state_finished r refl) (sane_late r (omega arith) (omega arith) h (omega arith) (omega arith)) refl
+
+-- Ids that are whole.
+pub follows_paired : (paired before id : ℕ) → (paired ≡ 0 → ⊥) → eqb before id ≡ follows (before_by paired before) id
+follows_paired zero before id h = absurd (h refl)
+follows_paired (suc n) before id h = refl
 
 -- Ids that are whole.
 module _ (S : List Schema) (n start : ℕ) (held : Bytes) (at : ℕ) where
@@ -305,6 +390,10 @@ between_read n at h =
     let r : Reader = numbers 0 0 0 0 0 n at 0 0 0 [] [] in
     stands (state_between r refl) (sane_between r (omega arith) (omega arith) h refl) refl
 
+-- The stage of a piece that is none of the others.
+pub is_prefix : (stage : ℕ) → 1 ≤ stage → stage ≤ 5 → (stage ≡ 1 → ⊥) → (stage ≡ 2 → ⊥) → (stage ≡ 3 → ⊥) → (stage ≡ 4 → ⊥) → stage ≡ 5
+is_prefix stage l h a b c d = omega arith
+
 -- The length in front of a field is whole.
 module _ (S : List Schema) (n start : ℕ) (held : Bytes) (k : Kind) (bits : Bytes) (j : ℕ) {c : Column} (same : c ≡ column_for S k j) where
   pub prefix_stopped :
@@ -339,6 +428,9 @@ module _ (S : List Schema) (n at size : ℕ) (k : Kind) (bits : Bytes) (j : ℕ)
       go zero z = absurd (z refl)
       go (suc m) z = let y : suc m - 1 ≡ m = omega arith in rw y refl
 
+  pub body_none : size ≡ 0 → body_of n at size k bits (suc j) (seek_from S n (at + size) k bits (suc j)) ≡ seek_from S n at k bits (j + 1)
+  body_none z = let y : at + 0 ≡ at = omega arith in rw (z, y, add-one j) refl
+
 -- a record of a field's bytes
 abbrev pub bodied : Reader → (at size : ℕ) → Reader
 bodied r at size =
@@ -365,6 +457,10 @@ pub body_started :
 body_started S r at size m a c z =
     stands_as (body_stands (bodied r at size) at (size - 1) (r.column + 1) refl refl refl refl m (omega arith) (omega arith))
     (body_some S r.rows at size (kind_in r) (map_in r) r.column _ z)
+
+-- The first bytes.
+pub part_of : (bytes : Bytes) (n : ℕ) → n ≤ length bytes → (take (n - 0) (drop 0 bytes) ≡ take n bytes) × (length (take n bytes) ≡ n)
+part_of bytes n h = let z : n - 0 ≡ n = omega arith in (rw z refl, length-take-le n bytes h)
 
 -- a record of a piece with so many bytes more
 abbrev pub longer : Reader → (n more : ℕ) → Bytes → Reader

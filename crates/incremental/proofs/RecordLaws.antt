@@ -1,6 +1,6 @@
 -- A record written anew, with zeros in all that its state does not need.
 -- Assumes nothing.
-use Prim.Native.Nat.{ℕ, ◌+◌, ◌-◌, ◌≤◌}
+use Prim.Native.Nat.{ℕ, ◌+◌, ◌-◌, ◌≤◌, suc, zero, ◌<◌}
 use mathlib.Core.List.{[], ◌++◌, append-nil}
 use mathlib.Core.Bool.{Bool, true, false}
 use mathlib.Core.Path.{◌≡◌, refl, sym, ap, ◌∙◌}
@@ -9,13 +9,30 @@ use borrow.Rule.Slice.PartMut.{put_mid}
 use lib.ListN.{length, take, drop, replicate, length-take, length-drop, drop_of_length-le}
 use lib.Seq.{take-append-add}
 use Rattle.std.proofs.lemmas.List.{take-replicate}
-use lib.Dec.{eqb}
-use borrow.Author.Tests.{eqb-true, eqb-false}
+use lib.Dec.{eqb, leb, ltb}
+use borrow.Author.Tests.{eqb-true, eqb-false, ltb-true, ltb-false, le-leb, lt-leb}
 use Rattle.wire.specs.Read.{Bytes}
 use Rattle.incremental.specs.declared.record.Reader.{Reader}
 use Rattle.incremental.specs.Record.{before_by, kind_in, held_in, map_in, state_in, state_of, sixteen, numbers}
 use Rattle.incremental.specs.Parts.{paired_as, kind_as, maps_as}
 use Rattle.incremental.proofs.StateLaws.{state_between, state_piece, state_body, state_finished, stage_child, stage_change, stage_delete, stage_maps, stage_prefix}
+use Rattle.grammar.specs.Grammar.{after}
+
+-- Room for a piece.
+pub room_told : (filled more : ℕ) → filled < 16 → ltb more (16 - filled) ≡ leb (filled + more) 15
+room_told filled more h = go (ltb more (16 - filled)) refl
+  where
+    go : (t : Bool) → ltb more (16 - filled) ≡ t → t ≡ leb (filled + more) 15
+    go true e = let l : filled + more ≤ 15 = omega (arith, ltb-true more (16 - filled) e) in sym (le-leb _ _ l)
+    go false e = let l : 15 < filled + more = omega (arith, ltb-false more (16 - filled) e) in sym (lt-leb _ _ l)
+
+pub room_none : (filled more : ℕ) → 16 ≤ filled → leb (filled + more) 15 ≡ false
+room_none filled more h = let l : 15 < filled + more = omega arith in lt-leb _ _ l
+
+-- An 87 element stands before.
+pub before_paired : (paired id : ℕ) → (paired ≡ 0 → ⊥) → before_by paired id ≡ after id
+before_paired zero id h = absurd (h refl)
+before_paired (suc n) id h = refl
 
 -- The first n of sixteen bytes, and zeros.
 pub first_long : (bytes : Bytes) (n : ℕ) → length bytes ≡ 16 → n ≤ 16 → length (take n bytes) ≡ n

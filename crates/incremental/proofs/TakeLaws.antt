@@ -30,7 +30,7 @@ use Rattle.incremental.proofs.StateLaws.{state_between, state_body, state_finish
 use Rattle.incremental.proofs.PassLaws.{passes_fed}
 
 -- the same, at a place that is told another way
-sane_to : {r : Reader} {from to : ℕ} → Sane r from → from ≡ to → Sane r to
+pub sane_to : {r : Reader} {from to : ℕ} → Sane r from → from ≡ to → Sane r to
 sane_to {r} s e = subst (λ (x : ℕ). Sane r x) e s
 
 module _ (S : List Schema) (s : Bytes) (at : ℕ) where
@@ -69,6 +69,17 @@ module _ (S : List Schema) (s : Bytes) (at : ℕ) where
   first_byte : (st : State) → at < length s → feed S st (drop at s) ≡ feed S (byte S st (get_or s at 0)) (drop (at + 1) s)
   unfolding feed
   first_byte st h = let z : suc at ≡ at + 1 = omega arith in ap (feed S st) (drop-cons s at 0 h) ∙ ap (λ (x : ℕ). feed S (byte S st (get_or s at 0)) (drop x s)) z
+
+  pub moved_byte :
+      (r r' : Reader) → at < length s → state_in r' ≡ byte S (state_in r) (get_or s at 0) → Sane r' (place_in r + 1) →
+      Onward S s r at (record { reader = r'; at = at + 1 })
+  moved_byte r r' h e c =
+      record {
+        same = first_byte (state_in r) h ∙ ap (λ (x : State). feed S x (drop (at + 1) s)) (sym e);
+        further = omega arith;
+        inside = omega arith;
+        sane = sane_to c (omega arith);
+      }
 
   byte_stopped : (st : State) {c o : ℕ} {i : Input} → at < length s → stopped c o i ≡ byte S st (get_or s at 0) → stopped c o i ≡ feed S st (drop at s)
   byte_stopped st {c} {o} {i} h e =
@@ -174,6 +185,14 @@ pub record Taking (S : List Schema) (s : Bytes) (reader r : Reader) (at : ℕ) :
   pub same : feed S (state_in reader) s ≡ feed S (state_in r) (drop at s)
   pub inside : at ≤ length s
   pub sane : Sane r (place_in reader + at)
+
+pub taking_start : (S : List Schema) (s : Bytes) (reader : Reader) → Sane reader (place_in reader) → Taking S s reader reader 0
+taking_start S s reader w = record { same = refl; inside = omega arith; sane = sane_to w (omega arith) }
+
+pub taking_next :
+    (S : List Schema) (s : Bytes) (reader r : Reader) (at : ℕ) (m : Moved) → Taking S s reader r at → Onward S s r at m → Taking S s reader m.reader m.at
+taking_next S s reader r at m t w =
+    record { same = t.same ∙ w.same; inside = w.inside; sane = sane_to w.sane (omega (arith, w.further, t.sane.comes)) }
 
 pub taking_end :
     (S : List Schema) (s : Bytes) (reader r : Reader) (at : ℕ) → Taking S s reader r at → length s ≤ at → Stands (feed S (state_in reader) s) (place_in reader + length s) r

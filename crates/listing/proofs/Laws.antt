@@ -10,10 +10,10 @@ use lib.ListN.{length, take, drop, get_or, length-append, take-append-drop}
 use Rattle.std.proofs.lemmas.List.{get_or-take, drop-take, length-drop, length-take-le}
 use lib.Seq.{take-append_seam, get_or-drop}
 use lib.Dec.{leb}
-use borrow.Author.Tests.{le-leb, lt-leb, leb-true}
+use borrow.Author.Tests.{le-leb, lt-leb, leb-true, eq-eqb, ne_eqb}
 use Rattle.wire.specs.declared.error.Input.TheVariants as input
 use Rattle.wire.specs.declared.error.Error.{Error}
-use Rattle.wire.specs.Errors.{code_of}
+use Rattle.wire.specs.Errors.{code_of, input_number}
 use Rattle.wire.specs.Read.{Bytes, Read, ok, bad, check, about, refused}
 use Rattle.wire.specs.Output.{put}
 use Rattle.wire.proofs.Laws.{put_fits, put_put, length_put}
@@ -23,8 +23,9 @@ use Rattle.std.proofs.lemmas.Fmt.{decimal_by_steps, length-decimal-le}
 use Rattle.grammar.specs.Grammar.{Row, entry}
 use Rattle.section.specs.Table.{table_numbers, fitting, rows_checked, rows_listed, row_count, table_after}
 use Rattle.section.proofs.Listing.{rows_told_lem, error_told}
-use Rattle.listing.specs.Lines.{last_digits, IsDigitCount, Decimal, space, newline, rows_word, at_word, CountLine, count_line, RowLine, row_line, RowLines, no_lines, one_more, refusal_words, RefusalLine, refusal_line, Text, rows_text, refusal_text, rows_of, Adds, AddsNumber, AddsThe}
+use Rattle.listing.specs.Lines.{last_digits, IsDigitCount, Decimal, space, newline, rows_word, at_word, CountLine, count_line, RowLine, row_line, RowLines, no_lines, one_more, refusal_words, RefusalLine, refusal_line, Text, rows_text, refusal_text, rows_of, Adds, AddsNumber, AddsThe, sheet_refused, rows_refused}
 use Rattle.listing.specs.Listing.{file_limit, listing}
+use Rattle.wire.specs.declared.error.Input.{Input}
 
 -- the text of a number of 64 bits is that number in decimal
 pub decimal_spelled : (n : ℕ) → n < 2 ^ 64 → Decimal n (decimal n)
@@ -198,6 +199,14 @@ pub lines_end : {text exit : Bytes} {at end : ℕ} (table : List ℕ) (i n : ℕ
 lines_end {text} {exit} {at} {end} table i n h k a =
     let z : i ≡ n = omega arith in
     subst (λ (m : ℕ). AddsThe (RowLines (rows_of m table)) (84 * m) text exit at end) z a
+
+-- the words of a refusal, by what it is about
+module _ (name : Input) {a b : ℕ} (p : a ≡ input_number name) (q : b ≡ input_number input.Schema) where
+  pub of_sheet : a ≡ b → sheet_refused ≡ refusal_words name
+  of_sheet e = rw (eq-eqb (input_number name) (input_number input.Schema) (sym p ∙ e ∙ q)) refl
+
+  pub of_rows : (a ≡ b → ⊥) → rows_refused ≡ refusal_words name
+  of_rows e = rw (ne_eqb (input_number name) (input_number input.Schema) (λ h. e (p ∙ h ∙ sym q))) refl
 
 -- the rows of the front of a table
 pub rows_front : (n : ℕ) (table : List ℕ) → 4 * n ≤ length table → rows_of n (take (4 * n) table) ≡ rows_of n table

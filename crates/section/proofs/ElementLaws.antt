@@ -45,7 +45,7 @@ element_said slots shapes n s b at r update e h z q =
 delete_inside : {S : List Schema} {s : Bytes} {before : Before} {at id : ℕ} → HeadTold S s before at (delete_head id) → at + 5 ≤ length s
 delete_inside (told_delete i b c l) = l
 
-deleted_at : {slots : List ℕ} {s : Bytes} {child at id : ℕ} → at < length s → get_or s at 0 ≡ 0x8C → paired_id s (before_in slots child) at ≡ ok id → DeletedAt slots s child at
+pub deleted_at : {slots : List ℕ} {s : Bytes} {child at id : ℕ} → at < length s → get_or s at 0 ≡ 0x8C → paired_id s (before_in slots child) at ≡ ok id → DeletedAt slots s child at
 deleted_at {slots} {s} {child} {at} {id} l t p = record { id = id; head = here; inside = delete_inside (head_told [] s (before_in slots child) at (delete_head id) (here [])) }
   where
     here : (S : List Schema) → head_at S s (before_in slots child) at ≡ ok (delete_head id)

@@ -251,6 +251,19 @@ module _ (slots : List ℕ) (n : ℕ) (s : Bytes) (at : ℕ) (h : at + 5 ≤ len
   five : whole s (at + 1) 4 ≡ ok (at + 5)
   five = let z : at + 1 + 4 ≡ at + 5 = omega arith in whole_fits s (at + 1) 4 (omega arith) ∙ ap (λ (x : ℕ). ok x) z
 
+  pub said_child : (b : Before) (id k : ℕ) → get_or s at 0 ≡ 0x87 → id ≡ id_at s at → k ≡ or0 (child_number (schemas_in 0 n slots) id) → (k ≡ 0 → ⊥) →
+      head_at (schemas_in 0 n slots) s b at ≡ ok (data_head 2 k (id_at s at) (at + 5))
+  said_child b id k t e q z =
+      head_child (schemas_in 0 n slots) s b at (omega arith) t
+      ∙ child_known (schemas_in 0 n slots) s other at five (ap (child_number (schemas_in 0 n slots)) (sym e) ∙ number_some (schemas_in 0 n slots) id q z)
+
+  pub said_change : (child id : ℕ) → Sound slots n → child < n → get_or s at 0 ≡ 0x8A → id ≡ id_at s at → 0 < child → id_in (get_or slots (schema_slot child) 0) ≡ id →
+      head_at (schemas_in 0 n slots) s (before_in slots child) at ≡ ok (data_head 3 child (id_at s at) (at + 5))
+  said_change child id sound l t e p i =
+      let f : follows (before_in slots child) (id_at s at) ≡ true = follows_child slots child (id_at s at) p ∙ eq-eqb _ _ (i ∙ e) in
+      head_change (schemas_in 0 n slots) s (before_in slots child) at (omega arith) t
+      ∙ change_followed slots n child s at sound l (paired_found s (before_in slots child) at five f)
+
   pub said_parent_in : (b : Before) → 1 ≤ n → get_or s at 0 ≡ 0x07 → SaidIn slots n s b at (record { kind = kind.Parent; number = 0; start = at + 1 })
   said_parent_in b one t = record { number = omega arith; says = λ sound. record { id = 0; head = head_parent (schemas_in 0 n slots) s b at (omega arith) t } }
 

@@ -32,7 +32,7 @@ data_marks_length true cs = length_numbered 0 cs
 data_marks_length false cs = length_marks 0 cs
 
 -- data that do not open
-data_closed : (u : Bool) (cs : List Column) (s : Bytes) (start : ℕ) {c o : ℕ} {i : Input} → data_opened u cs s start ≡ bad c o i → data_end u cs s start ≡ bad c o i
+pub data_closed : (u : Bool) (cs : List Column) (s : Bytes) (start : ℕ) {c o : ℕ} {i : Input} → data_opened u cs s start ≡ bad c o i → data_end u cs s start ≡ bad c o i
 unfolding row_end update_end
 data_closed true cs s start e = bind_bad _ e
 data_closed false cs s start e = bind_bad _ e
@@ -79,7 +79,7 @@ pub record Walking (u : Bool) (cs : List Column) (s : Bytes) (start p i : ℕ) :
   pub walks : walk (data_has u cs s start) s i (data_marks u cs) (place fields 0) ≡ ok (place p prefixes)
 
 module _ (u : Bool) (cs : List Column) (s : Bytes) (start : ℕ) where
-  walking_start : (d : ℕ) → data_opened u cs s start ≡ ok d → Walking u cs s start d 0
+  pub walking_start : (d : ℕ) → data_opened u cs s start ≡ ok d → Walking u cs s start d 0
   walking_start d e =
       record { fields = d; prefixes = 0; opens = e; walks = walk_zero (data_has u cs s start) s (data_marks u cs) (place d 0) }
 
@@ -91,20 +91,20 @@ module _ (u : Bool) (cs : List Column) (s : Bytes) (start : ℕ) where
       one_more =
           walk_next (data_has u cs s start) s i (data_marks u cs) (place w.fields 0) (omega (arith, data_marks_length u cs)) w.walks
 
-      walking_next : (q : ℕ) → data_passed u cs s start i p ≡ ok q → Walking u cs s start q (i + 1)
+      pub walking_next : (q : ℕ) → data_passed u cs s start i p ≡ ok q → Walking u cs s start q (i + 1)
       unfolding data_passed
       walking_next q e =
           let (n, f) = placed _ q (step_position (data_has u cs s start) s (get_or (data_marks u cs) i no_mark) p w.prefixes (ok q) e) in
           record { fields = w.fields; prefixes = n; opens = w.opens; walks = one_more ∙ f }
 
-      walking_refused : {c o : ℕ} {x : Input} → data_passed u cs s start i p ≡ bad c o x → data_end u cs s start ≡ bad c o x
+      pub walking_refused : {c o : ℕ} {x : Input} → data_passed u cs s start i p ≡ bad c o x → data_end u cs s start ≡ bad c o x
       unfolding data_passed
       walking_refused {c} {o} {x} e =
           let f = refused_place _ (step_position (data_has u cs s start) s (get_or (data_marks u cs) i no_mark) p w.prefixes (bad c o x) e) in
           data_walk u cs s start w.fields w.opens
           ∙ bind_bad _ (walk_ended (data_has u cs s start) s (i + 1) (length cs) (data_marks u cs) (place w.fields 0) (omega arith) (one_more ∙ f))
 
-    walking_end : i ≡ length cs → data_end u cs s start ≡ ok p
+    pub walking_end : i ≡ length cs → data_end u cs s start ≡ ok p
     walking_end e =
         data_walk u cs s start w.fields w.opens
         ∙ bind_of _ (ap (λ (k : ℕ). walk (data_has u cs s start) s k (data_marks u cs) (place w.fields 0)) (sym e) ∙ w.walks)

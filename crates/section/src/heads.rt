@@ -26,7 +26,7 @@ pub const DONE: u8 = 0x0F;
 
 // Kinds of rows, by their numbers in the table of rows.
 #[derive(Clone, Copy)]
-pub(crate) enum RowKind {
+pub enum RowKind {
     Parent = 1,
     Child = 2,
     Change = 3,
@@ -51,7 +51,7 @@ impl RowKind {
 
 // A head that was read. Of row data: the kind of its row so far, the number of its schema, its child id, where the data start.
 #[derive(Clone, Copy)]
-pub(crate) enum Head {
+pub enum Head {
     Done,
     Delete(usize),
     Data {
