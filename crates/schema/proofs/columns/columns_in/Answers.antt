@@ -10,7 +10,7 @@ loop-i-init c = (omega (arith, c.min-first.ensures), omega (arith, c.min-n.ensur
 
 pub loop-i-preserved : goal.loop-i-preserved
 loop-i-preserved c =
-    (c.loop-i.invariant.0, c.loop-i.invariant.1, fill_next _ _ _ c.loop-i.invariant.1 c.loop-i.invariant.2 c.loop-i-test.true c.unpack.result c.unpack.ensures)
+    (c.loop-i.invariant.0, c.loop-i.invariant.1, fill_next _ _ _ c.loop-i.invariant.1 c.loop-i.invariant.2 c.loop-i-test.true _ (cc))
 
 pub returns : goal.returns
 returns c = fill_end _ _ _ c.loop-i.invariant.2 c.loop-i-test.false ∙ rw (c.min-first.ensures, c.min-n.ensures) refl
