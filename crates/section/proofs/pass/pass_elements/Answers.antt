@@ -1,7 +1,6 @@
 -- A run, or an element, keeps what holds before it.
 -- Assumes nothing.
-use mathlib.Core.Path.{sym, ◌∙◌}
-use borrow.Author.Tests.{ltb-true, ltb-false}
+use native.Mathlib.Omega.{arith}
 use Rattle.section.proofs.Passing.{pass_start, pass_run, pass_closing, pass_row, none_to}
 use Rattle.section.proofs.pass.pass_elements.Goals as goal
 
@@ -14,12 +13,12 @@ loop-sheet-init c = pass_start (c.is_outside.ensures c.if-is_outside.false)
 pub loop-sheet-preserved-then-is_new : goal.loop-sheet-preserved-then-is_new
 loop-sheet-preserved-then-is_new c =
     let (l, i) = c.lies.ensures c.if-lies.true in
-    pass_row c.loop-sheet.invariant c.in-Some.element c.in-Some.ensures l i (ltb-true _ _ (sym c.is_new.ensures ∙ c.if-is_new.true))
+    pass_row c.loop-sheet.invariant c.in-Some.element c.in-Some.ensures l i (grind arith)
 
 pub loop-sheet-preserved-else-is_new : goal.loop-sheet-preserved-else-is_new
 loop-sheet-preserved-else-is_new c =
     let (l, i) = c.lies.ensures c.if-lies.true in
-    pass_closing c.loop-sheet.invariant c.in-Some.element c.in-Some.ensures l i (ltb-false _ _ (sym c.is_new.ensures ∙ c.if-is_new.false))
+    pass_closing c.loop-sheet.invariant c.in-Some.element c.in-Some.ensures l i (grind arith)
 
 pub loop-sheet-preserved : goal.loop-sheet-preserved
 loop-sheet-preserved c = pass_run c.loop-sheet.invariant (λ i. (c.type_inv.section i).fits) c.run-n.ensures c.if-n-eq0.false
