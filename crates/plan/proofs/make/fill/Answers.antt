@@ -3,6 +3,7 @@
 use mathlib.Core.Path.{◌≡◌, refl, sym}
 use native.Mathlib.Omega.{arith}
 use lib.ListN.{length}
+use Rattle.std.proofs.lemmas.Grind.{common_steps}
 use Rattle.column.specs.Packed.{packed_from}
 use Rattle.column.proofs.Stops.{width_few}
 use Rattle.walk.specs.Presence.{one}
@@ -26,7 +27,7 @@ number_of-requires c = (
 
 pub overflow_add-mask : goal.overflow_add-mask
 overflow_add-mask c =
-    omega (arith, mask_room c.args.slots.now (length c.args.slots.now) c.requires.0 c.loop-i.invariant c.loop-i-test.true c.unpack_slot-column.result c.unpack_slot-column.ensures c.number_of.result c.number_of.ensures c.is_nullable-nullable.result c.is_nullable-nullable.ensures (one c.is_nullable-nullable.result) refl c.is_stop.ensures c.if-is_stop.false c.chapter_bit-mask.ensures)
+    omega (arith, mask_room c.args.slots.now (length c.args.slots.now) c.requires.0 c.loop-i.invariant (omega (arith, c.loop-i-test.true)) c.unpack_slot-column.result (grind (arith, common_steps)) c.number_of.result c.number_of.ensures c.is_nullable-nullable.result c.is_nullable-nullable.ensures (one c.is_nullable-nullable.result) refl c.is_stop.ensures c.if-is_stop.false c.chapter_bit-mask.ensures)
 
 pub overflow_add-gap : goal.overflow_add-gap
 overflow_add-gap c =
@@ -38,10 +39,10 @@ loop-i-preserved c =
     elim c.if-is_stop.branch [
       | then-is_stop w ↦
           rw (w.numbers-is, w.gap-is, w.stops-is, w.first-is, w.mask-is)
-          (fill_stop c.args.slots.now (length c.args.slots.now) c.requires.0 c.loop-i.invariant c.loop-i-test.true c.unpack_slot-column.result c.unpack_slot-column.ensures c.number_of.result c.number_of.ensures c.is_nullable-nullable.result c.is_nullable-nullable.ensures c.from-bit.result bit c.is_stop.ensures w.if-is_stop.true w.stop_sized.result (w.stop_sized.ensures c.width-size.ensures) w.first_of-first.ensures)
+          (fill_stop c.args.slots.now (length c.args.slots.now) c.requires.0 c.loop-i.invariant (omega (arith, c.loop-i-test.true)) c.unpack_slot-column.result (grind (arith, common_steps)) c.number_of.result c.number_of.ensures c.is_nullable-nullable.result c.is_nullable-nullable.ensures c.from-bit.result bit c.is_stop.ensures w.if-is_stop.true w.stop_sized.result (w.stop_sized.ensures c.width-size.ensures) w.first_of-first.ensures)
       | else-is_stop w ↦
           rw (w.numbers-is, w.gap-is, w.stops-is, w.first-is, w.mask-is)
-          (fill_plain c.args.slots.now (length c.args.slots.now) c.requires.0 c.loop-i.invariant c.loop-i-test.true c.unpack_slot-column.result c.unpack_slot-column.ensures c.number_of.result c.number_of.ensures c.is_nullable-nullable.result c.is_nullable-nullable.ensures c.from-bit.result bit c.is_stop.ensures w.if-is_stop.false w.chapter_bit-mask.ensures c.width-size.ensures)
+          (fill_plain c.args.slots.now (length c.args.slots.now) c.requires.0 c.loop-i.invariant (omega (arith, c.loop-i-test.true)) c.unpack_slot-column.result (grind (arith, common_steps)) c.number_of.result c.number_of.ensures c.is_nullable-nullable.result c.is_nullable-nullable.ensures c.from-bit.result bit c.is_stop.ensures w.if-is_stop.false w.chapter_bit-mask.ensures c.width-size.ensures)
     ]
 
 pub returns : goal.returns
