@@ -9,7 +9,7 @@ ghost use Rattle.answers.specs.Answers.{Answered, size_values};
 ghost use Rattle.answers.specs.PlanAnswers.{found_answer, place_values};
 ghost use Rattle.adtg_c.specs.PlanAnswers.{plan_answer, CheckTold};
 
-use adtg::plans::{check_plan, make_plan};
+use adtg::plans::{check_plan, make_lent};
 use answers::answer::{answer_match, answer_size};
 use answers::plans::{FoundAnswer, answer_place, found_answer};
 use jump::look::{look_lent, open_row};
@@ -41,14 +41,15 @@ fn blank_plan() -> Plan
 pub extern "C" fn adtg_make_plan(file: &[u8], number: usize) -> PlanAnswer
     ensures { result ≡ plan_answer (plan_in file.now number) }
 {
-    match make_plan(file, number) {
+    let mut plan = blank_plan();
+    match make_lent(file, number, &mut plan) {
         Err(e) => PlanAnswer {
             code: e.kind.code(),
             offset: e.offset as u64,
             input: e.input.number(),
-            plan: blank_plan(),
+            plan,
         },
-        Ok(plan) => PlanAnswer {
+        Ok(()) => PlanAnswer {
             code: 0,
             offset: 0,
             input: 0,

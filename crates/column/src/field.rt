@@ -10,12 +10,13 @@ use wire::bytes::lacks;
 use wire::error::{Error, Input};
 use wire::integer::{u8_at, u32_at};
 
-// A field: its two ends, and the number of length prefixes read for it, 0 or 1.
+// A field: its two ends, and the number of length prefixes read for it, 0 or 1. The ends stand apart: side by side, the compiler loads both at
+// once from an answer that was just stored piece by piece, and a look-up waits for that.
 #[derive(Clone, Copy)]
 pub struct Field {
     pub start: usize,
-    pub end: usize,
     pub prefixes: usize,
+    pub end: usize,
 }
 
 // The length in front of a field of variable length.

@@ -32,6 +32,16 @@ pub one_byte : (t : Bool) → bool_byte t ≡ one t
 one_byte true = refl
 one_byte false = refl
 
+-- what code counts for a column that every row has a field of
+pub always_byte :
+    (c : Column) {t : Bool} → t ≡ pick (is_chapter c) false (not (is_nullable c)) → bool_byte t ≡ pick (is_chapter c) 0 (pick (is_nullable c) 0 1)
+always_byte c e = ap bool_byte e ∙ go (is_chapter c) (is_nullable c)
+  where
+    go : (k n : Bool) → bool_byte (pick k false (not n)) ≡ pick k 0 (pick n 0 1)
+    go true n = refl
+    go false true = refl
+    go false false = refl
+
 module _ (slots : List ℕ) where
   pub length_from : (n i : ℕ) → length (packed_from n i slots) ≡ n
   unfolding packed_from
