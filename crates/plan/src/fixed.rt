@@ -5,16 +5,21 @@ ghost use Rattle.column.specs.Packed.{packed_at};
 ghost use Rattle.plan.specs.Plans.{fixed_place};
 ghost use Rattle.plan.specs.Told.{told_place};
 
-use crate::parts::{COUNTS, count_in, gap_in};
+use crate::parts::{COUNTS, count_in, first_in, gap_in};
 use crate::plan::Plan;
 use column::packed::unpack;
 use wire::error::{Error, ErrorKind, Input};
 
-// Whether none of the first `k` columns of a plan's numbers is a stop.
+// Whether none of the first `k` columns of a plan's numbers is a stop. The first stop that the plan lists is asked first: of a plan that was
+// made it tells at once.
 fn no_stops(plan: &[usize; 131], k: usize) -> bool
     requires { k ≤ 64 }
     ensures { (IsTrue result ↔ EachIndex (take k plan.now) (λ i. is_stop (packed_at (take k plan.now) i) ≡ false)) × (k ≤ length plan.now) }
 {
+    let first = first_in(plan[COUNTS]);
+    if first < k && unpack(plan[first]).is_stop() {
+        return false;
+    }
     plan[..k].iter().all(|word| !unpack(*word).is_stop())
 }
 
