@@ -7,7 +7,7 @@ ghost use Rattle.options.specs.Options.{options_of, options_written};
 ghost use Rattle.answers.specs.Answers.{Answered, size_values};
 ghost use Rattle.adtg_c.specs.FileAnswers.{header_values, options_values};
 
-use answers::answer::{answer, answer_size, tell};
+use answers::answer::{answer, answer_size, refuse, tell};
 use header::header::{Header, read_header, write_header, write_header_short};
 use options::options::{Options, Spans, read_options, write_options};
 
@@ -19,11 +19,18 @@ fn header_numbers(h: Header) -> [u64; 16]
 }
 
 // The header at the start of `bytes`: major, minor, byte order, unicode, end.
+// Kept: (b) a `match`, as in `answer_size` of `answers`.
 #[unsafe(no_mangle)]
 pub extern "C" fn adtg_read_header(bytes: &[u8], out: &mut [u64; 16]) -> u32
     ensures { Answered header_values (header_of bytes.now) result out.new }
 {
-    answer(read_header(bytes).map(header_numbers), out)
+    match read_header(bytes) {
+        Err(e) => refuse(e, out),
+        Ok(h) => {
+            *out = header_numbers(h);
+            0
+        }
+    }
 }
 
 // Writes a header at the start of `dst`: bytes written.

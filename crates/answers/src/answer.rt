@@ -47,10 +47,17 @@ fn size_numbers(size: usize) -> [u64; 16]
 }
 
 // The answer of a call that gives one number.
+// Kept: (b) a `match` that writes into `out`, as for a place and for rows; through `answer` a short call takes up to a third longer.
 pub fn answer_size(size: Result<usize, Error>, out: &mut [u64; 16]) -> u32
     ensures { Answered size_values (told size) result out.new }
 {
-    answer(size.map(size_numbers), out)
+    match size {
+        Err(error) => refuse(error, out),
+        Ok(size) => {
+            *out = size_numbers(size);
+            0
+        }
+    }
 }
 
 // No number.

@@ -5,7 +5,7 @@ ghost use Rattle.plan.specs.Told.{told_place};
 ghost use Rattle.answers.specs.Answers.{Answered};
 ghost use Rattle.answers.specs.PlanAnswers.{found_answer, place_values};
 
-use crate::answer::{answer, tell};
+use crate::answer::{refuse, tell};
 use row::rows::LookUp;
 use wire::error::Error;
 
@@ -32,10 +32,17 @@ fn place_numbers(place: Option<usize>) -> [u64; 16]
 }
 
 // The answer of a question for a place.
+// Kept: (b) a `match`, as in `answer_size`.
 pub fn answer_place(place: Result<Option<usize>, Error>, out: &mut [u64; 16]) -> u32
     ensures { Answered place_values (told_place place) result out.new }
 {
-    answer(place.map(place_numbers), out)
+    match place {
+        Err(e) => refuse(e, out),
+        Ok(place) => {
+            *out = place_numbers(place);
+            0
+        }
+    }
 }
 
 // The answer of a look-up, as a value.

@@ -5,7 +5,7 @@ ghost use Rattle.update.specs.Told.{told_update, told_current};
 ghost use Rattle.answers.specs.Answers.{Answered};
 ghost use Rattle.answers.specs.RowAnswers.{look_up_values, update_values, current_values};
 
-use crate::answer::{answer, tell};
+use crate::answer::{refuse, tell};
 use row::rows::LookUp;
 use update::current::CurrentValue;
 use update::updates::UpdateLookUp;
@@ -23,10 +23,17 @@ fn look_up_numbers(found: LookUp) -> [u64; 16]
 }
 
 // The answer of a look-up in a row.
+// Kept: (b) a `match`, as in `answer_size`, here and below.
 pub fn answer_look_up(found: Result<LookUp, Error>, out: &mut [u64; 16]) -> u32
     ensures { Answered look_up_values (told_look_up found) result out.new }
 {
-    answer(found.map(look_up_numbers), out)
+    match found {
+        Err(e) => refuse(e, out),
+        Ok(found) => {
+            *out = look_up_numbers(found);
+            0
+        }
+    }
 }
 
 // The numbers of a look-up in update data.
@@ -45,7 +52,13 @@ fn update_numbers(found: UpdateLookUp) -> [u64; 16]
 pub fn answer_update(found: Result<UpdateLookUp, Error>, out: &mut [u64; 16]) -> u32
     ensures { Answered update_values (told_update found) result out.new }
 {
-    answer(found.map(update_numbers), out)
+    match found {
+        Err(e) => refuse(e, out),
+        Ok(found) => {
+            *out = update_numbers(found);
+            0
+        }
+    }
 }
 
 // The numbers of a current value.
@@ -65,5 +78,11 @@ fn current_numbers(found: CurrentValue) -> [u64; 16]
 pub fn answer_current(found: Result<CurrentValue, Error>, out: &mut [u64; 16]) -> u32
     ensures { Answered current_values (told_current found) result out.new }
 {
-    answer(found.map(current_numbers), out)
+    match found {
+        Err(e) => refuse(e, out),
+        Ok(found) => {
+            *out = current_numbers(found);
+            0
+        }
+    }
 }

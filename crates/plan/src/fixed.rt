@@ -10,6 +10,19 @@ use crate::plan::Plan;
 use column::packed::unpack;
 use wire::error::{Error, ErrorKind, Input};
 
+// Whether none of the first `k` columns is a stop.
+// Kept: (b) a sum without a branch; where none of 64 columns is a stop, std's `all` takes half as long again.
+fn counts_no_stop(plan: &[usize; 131], k: usize) -> bool
+    requires { k ≤ 64 }
+    ensures { (IsTrue result ↔ EachIndex (take k plan.now) (λ i. is_stop (packed_at (take k plan.now) i) ≡ false)) × (k ≤ length plan.now) }
+{
+    let mut stops = 0;
+    for i in 0..k {
+        stops += usize::from(unpack(plan[i]).is_stop());
+    }
+    stops == 0
+}
+
 // Whether none of the first `k` columns of a plan's numbers is a stop. The first stop that the plan lists is asked first: of a plan that was
 // made it tells at once.
 fn no_stops(plan: &[usize; 131], k: usize) -> bool
@@ -20,7 +33,7 @@ fn no_stops(plan: &[usize; 131], k: usize) -> bool
     if first < k && unpack(plan[first]).is_stop() {
         return false;
     }
-    plan[..k].iter().all(|word| !unpack(*word).is_stop())
+    counts_no_stop(plan, k)
 }
 
 // The fixed place of column `k`, by a plan; none for a chapter, nor behind a stop.

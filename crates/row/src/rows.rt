@@ -163,6 +163,7 @@ fn walk_row(slots: &[u32], map: &[u8], row: &[u8], start: usize, k: usize) -> Re
 }
 
 // Column `k` of a row that opens, its data from `start` on: a chapter, null, or its field by the walk to it.
+// Kept: (b) a `match` that names the row in each error; through `about` the compiler puts the walk's position together from bytes.
 fn look_at(slots: &[u32], row: &[u8], start: usize, k: usize) -> Result<LookUp, Error>
     requires { (length slots.now ≤ 64) × (k < length slots.now) × (opened (packed_from (length slots.now) 0 slots.now) row.now 0 ≡ ok start) }
     ensures { told_look_up result ≡ look_up (packed_from (length slots.now) 0 slots.now) row.now k }
@@ -175,13 +176,16 @@ fn look_at(slots: &[u32], row: &[u8], start: usize, k: usize) -> Result<LookUp, 
     if !is_present(column, bit, row) {
         return Ok(LookUp::Null);
     }
-    let walked = walk_row(slots, row, row, start, k);
-    let Walked { position, prefixes } = about(walked, Input::Row)?;
-    let f = about(field_at(column, row, position), Input::Row)?;
-    Ok(LookUp::Found(Field {
-        prefixes: prefixes + f.prefixes,
-        ..f
-    }))
+    match walk_row(slots, row, row, start, k) {
+        Err(e) => Err(e.about(Input::Row)),
+        Ok(Walked { position, prefixes }) => match field_at(column, row, position) {
+            Err(e) => Err(e.about(Input::Row)),
+            Ok(f) => Ok(LookUp::Found(Field {
+                prefixes: prefixes + f.prefixes,
+                ..f
+            })),
+        },
+    }
 }
 
 // What a row of the columns in no more than 64 slots has at column `k`.
